@@ -1,0 +1,4 @@
+pub mod Decimal
+pub mod Hex
+pub mod Memory
+pub mod Outside

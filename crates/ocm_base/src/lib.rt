@@ -1,0 +1,34 @@
+//! What every crate stands on: texts, bytes and lists in small types, the outside as two traits,
+//! and the numbers and bytes that texts write.
+//!
+//! Want of memory is an answer of its own everywhere ([`NoMemory`]), and is merged with no other.
+//! What makes a new value takes the allocator first; a value that grows or is copied keeps its own.
+#![tactic(auto)]
+
+mod byte_lists;
+mod copies;
+mod decimals;
+mod failures;
+mod hex_digits;
+mod lists;
+mod memory_sinks;
+mod memory_sources;
+mod outside;
+mod streams;
+#[cfg(test)]
+mod tests;
+mod text_lists;
+mod whole;
+
+pub use byte_lists::Bytes;
+pub use copies::Copied;
+pub use decimals::decimal_read;
+pub use failures::{Failed, NoMemory};
+pub use hex_digits::{HexFault, hex_of, hex_read};
+pub use lists::List;
+pub use memory_sinks::{MemSink, PureSink};
+pub use memory_sources::{MemSource, PureSource};
+pub use outside::{Sink, Source};
+pub use streams::{StdSink, StdSource};
+pub use text_lists::Text;
+pub use whole::{ReadEnd, read_whole, write_all};

@@ -1,0 +1,23 @@
+ghost use Rattle.std.specs.Prelude.{◌≡◌, IfOk};
+
+use crate::asks::Ask;
+use crate::replies::Reply;
+use ocm_base::NoMemory;
+
+/// An ask with the reply that was given: one entry of a server's history.
+#[derive(Debug, Drop, PartialEq, Eq)]
+pub struct Entry {
+    pub ask: Ask,
+    pub reply: Reply,
+}
+
+impl Entry {
+    /// The same entry once more.
+    pub fn copy(&self) -> Result<Entry, NoMemory>
+        ensures { IfOk result (λ e. e ≡ self.now) }
+    {
+        let ask = self.ask.copy()?;
+        let reply = self.reply.copy()?;
+        Ok(Entry { ask, reply })
+    }
+}

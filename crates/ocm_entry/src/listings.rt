@@ -1,0 +1,111 @@
+ghost use Rattle.std.specs.Prelude.{◌≡◌, IfOk};
+
+use ocm_base::{Copied, NoMemory};
+use ocm_path::Path;
+use ocm_types::{Address, Offer, Perms, Phase, RequestPhase};
+
+/// What stands at a path, as PROPFIND tells it (RFC 4918 section 9.1).
+#[derive(Debug, Drop, PartialEq, Eq)]
+pub struct DavItem {
+    /// Below the holder's root.
+    pub path: Path,
+    /// The bytes of a file, and none for a collection.
+    pub size: Option<u64>,
+}
+
+/// A line of what a user lists.
+#[derive(Debug, Drop, PartialEq, Eq)]
+pub enum Line {
+    /// A share of this user's files.
+    Share {
+        id: u32,
+        path: Path,
+        with: Address,
+        perms: Perms,
+        live: bool,
+    },
+    /// A share that was offered to this user.
+    Received {
+        number: u32,
+        offer: Offer,
+        phase: Phase,
+    },
+    /// A request of this user to share further.
+    Request {
+        number: u32,
+        received: u32,
+        with: Address,
+        perms: Option<Perms>,
+        state: RequestPhase,
+    },
+}
+
+impl DavItem {
+    /// The same item once more.
+    pub fn copy(&self) -> Result<DavItem, NoMemory>
+        ensures { IfOk result (λ i. i ≡ self.now) }
+    {
+        let path = self.path.copy()?;
+        Ok(DavItem {
+            path,
+            size: self.size,
+        })
+    }
+}
+
+impl Copied for DavItem {
+    fn copied(&self) -> Result<DavItem, NoMemory> {
+        self.copy()
+    }
+}
+
+impl Line {
+    /// The same line once more.
+    pub fn copy(&self) -> Result<Line, NoMemory>
+        ensures { IfOk result (λ l. l ≡ self.now) }
+    {
+        match self {
+            Line::Share {
+                id,
+                path,
+                with,
+                perms,
+                live,
+            } => Ok(Line::Share {
+                id: *id,
+                path: path.copy()?,
+                with: with.copy()?,
+                perms: *perms,
+                live: *live,
+            }),
+            Line::Received {
+                number,
+                offer,
+                phase,
+            } => Ok(Line::Received {
+                number: *number,
+                offer: offer.copy()?,
+                phase: *phase,
+            }),
+            Line::Request {
+                number,
+                received,
+                with,
+                perms,
+                state,
+            } => Ok(Line::Request {
+                number: *number,
+                received: *received,
+                with: with.copy()?,
+                perms: *perms,
+                state: state.copy()?,
+            }),
+        }
+    }
+}
+
+impl Copied for Line {
+    fn copied(&self) -> Result<Line, NoMemory> {
+        self.copy()
+    }
+}

@@ -1,0 +1,162 @@
+ghost use Rattle.std.specs.Prelude.{◌≡◌, IfOk};
+
+use ocm_base::{Bytes, NoMemory};
+use ocm_path::Path;
+use ocm_types::{Address, Name, Perms, RequestPhase, Rights, Secret, SenderId};
+
+/// A user of the server, with the key of the account. Users are numbered from 1.
+#[derive(Debug, Drop, PartialEq, Eq)]
+pub struct User {
+    pub name: Name,
+    pub key: Secret,
+}
+
+/// A share: what a guest may do with the files of a user at and below a path. Shares are numbered
+/// from 1, and a further share has a smaller number as its parent.
+#[derive(Debug, Drop, PartialEq, Eq)]
+pub struct Share {
+    /// The number of the user whose files they are.
+    pub owner: u32,
+    /// The path of the owner that is the guest's `/`.
+    pub root: Path,
+    /// The share from which this one was shared further.
+    pub parent: Option<u32>,
+    /// The recipient, who is the guest (OCM API 1.1, `shareWith`).
+    pub with: Address,
+    /// Who shared: the owner, or the guest of the parent.
+    pub sender: Address,
+    /// By which the guest reads and writes.
+    pub secret: Secret,
+    /// What was granted when the share was made.
+    pub granted: Perms,
+    /// The id that the guest's server gave to its request (`senderId`), for a further share.
+    pub sender_id: Option<SenderId>,
+    /// What was asked for, for a further share.
+    pub asked: Option<Perms>,
+}
+
+/// A user's request to share a received share further. Requests are numbered from 1.
+#[derive(Debug, Drop, PartialEq, Eq)]
+pub struct Request {
+    /// The number of the received share.
+    pub received: u32,
+    pub with: Address,
+    pub perms: Option<Perms>,
+    pub state: RequestPhase,
+}
+
+/// A path of a user: the number of the user, and the path below the user's root.
+#[derive(Debug, Drop, PartialEq, Eq, Hash)]
+pub struct Place {
+    pub user: u32,
+    pub path: Path,
+}
+
+/// What stands at a place.
+#[derive(Debug, Drop, PartialEq, Eq)]
+pub enum Standing {
+    /// A collection (RFC 4918 section 5.2).
+    Collection,
+    /// A file, with its bytes.
+    File { body: Bytes },
+}
+
+/// A place with what stands at it.
+#[derive(Debug, Drop, PartialEq, Eq)]
+pub struct Node {
+    pub place: Place,
+    pub standing: Standing,
+}
+
+/// What the holder of a secret may do, at and below a place.
+#[derive(Debug, Drop, PartialEq, Eq)]
+pub struct Grant {
+    pub root: Place,
+    pub rights: Rights,
+}
+
+impl User {
+    /// The same user once more.
+    pub fn copy(&self) -> Result<User, NoMemory>
+        ensures { IfOk result (λ u. u ≡ self.now) }
+    {
+        let name = self.name.copy()?;
+        let key = self.key.copy()?;
+        Ok(User { name, key })
+    }
+}
+
+impl Share {
+    /// The same share once more.
+    pub fn copy(&self) -> Result<Share, NoMemory>
+        ensures { IfOk result (λ s. s ≡ self.now) }
+    {
+        let sender_id = match &self.sender_id {
+            Some(id) => Some(id.copy()?),
+            None => None,
+        };
+        Ok(Share {
+            owner: self.owner,
+            root: self.root.copy()?,
+            parent: self.parent,
+            with: self.with.copy()?,
+            sender: self.sender.copy()?,
+            secret: self.secret.copy()?,
+            granted: self.granted,
+            sender_id,
+            asked: self.asked,
+        })
+    }
+}
+
+impl Request {
+    /// The same request once more.
+    pub fn copy(&self) -> Result<Request, NoMemory>
+        ensures { IfOk result (λ r. r ≡ self.now) }
+    {
+        let with = self.with.copy()?;
+        let state = self.state.copy()?;
+        Ok(Request {
+            received: self.received,
+            with,
+            perms: self.perms,
+            state,
+        })
+    }
+}
+
+impl Place {
+    /// The same place once more.
+    pub fn copy(&self) -> Result<Place, NoMemory>
+        ensures { IfOk result (λ p. p ≡ self.now) }
+    {
+        let path = self.path.copy()?;
+        Ok(Place {
+            user: self.user,
+            path,
+        })
+    }
+}
+
+impl Standing {
+    /// The same once more, with a copy of a file's bytes.
+    pub fn copy(&self) -> Result<Standing, NoMemory>
+        ensures { IfOk result (λ s. s ≡ self.now) }
+    {
+        match self {
+            Standing::Collection => Ok(Standing::Collection),
+            Standing::File { body } => Ok(Standing::File { body: body.copy()? }),
+        }
+    }
+}
+
+impl Node {
+    /// The same node once more, with a copy of a file's bytes.
+    pub fn copy(&self) -> Result<Node, NoMemory>
+        ensures { IfOk result (λ n. n ≡ self.now) }
+    {
+        let place = self.place.copy()?;
+        let standing = self.standing.copy()?;
+        Ok(Node { place, standing })
+    }
+}

@@ -1,0 +1,5 @@
+pub mod SamePlace
+pub mod NodeLists
+pub mod Indexes
+pub mod LimitNumbers
+pub mod TableKept

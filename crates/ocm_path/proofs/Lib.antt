@@ -1,0 +1,4 @@
+pub mod Joining
+pub mod Kept
+pub mod RoundTrip
+pub mod SegmentsRead

@@ -1,0 +1,181 @@
+ghost use Rattle.std.specs.Prelude.{◌≡◌, ◌≢◌, [], ◌++◌, ◌≤◌, length, Some, None, Ok, Err, IfOk, IfErr, IsTrue, option_copied};
+ghost use Rattle.ocm_path.specs.Paths.{parent, is_root, last, is_above, path_text, path_escaped, is_path, path_below, path_of, path_given};
+
+use crate::faults::PathFault;
+use crate::reading::{read_segments, without_last_slash};
+use crate::segments::{add_copies, joined, joined_escaped, joined_len};
+use ocm_base::{List, NoMemory, Text};
+use std::alloc::Global;
+use std::hash::{Hash, Hasher};
+use std::marker::Model;
+
+/// A path below a user's or a share's root: its segments, none for the root.
+///
+/// Each segment is a text of 1 to 255 bytes, neither `.` nor `..`, with no `/` and no control
+/// character of ASCII. The path's text has at most 2,048 bytes.
+#[derive(Debug, Drop, PartialEq, Eq, PartialOrd, Ord)]
+pub struct Path {
+    segments: List<Text>,
+}
+
+impl Model for Path {
+    ghost use Rattle.std.specs.Prelude.{List, ℕ, IsTrue};
+    ghost use Rattle.ocm_path.specs.Paths.{is_path};
+
+    ghost Value = { List (List ℕ) };
+
+    ghost view = { λ path. path.segments };
+
+    ghost invariant = { λ path. IsTrue (is_path path.segments) };
+
+    ghost inverse = { λ segments. record { segments = segments } };
+}
+
+impl Path {
+    /// The root.
+    pub fn root(alloc: Global) -> Path
+        ensures { result ≡ [] }
+    {
+        Path {
+            segments: List::new(alloc),
+        }
+    }
+
+    /// Reads a path as it stands in a URL: nothing or `/` for the root, else segments that are
+    /// percent-encoded (RFC 3986 section 2.1), each after a `/`, with one `/` more at the end or none.
+    /// The first segment with a fault decides; the text of the path has at most 1,024 bytes.
+    pub fn read(alloc: Global, rest: &str) -> Result<Path, PathFault>
+        ensures ok { IfOk result (λ path. path_of rest.now ≡ Ok path) }
+        ensures err { IfErr result (λ fault. fault ≢ PathFault.NoMemory → path_of rest.now ≡ Err fault) }
+        ensures within { IfOk result (λ path. length (path_text path) ≤ 1024) }
+        ensures given { IfOk result (λ path. path_given rest.now ≡ Some path) }
+        ensures refused { IfErr result (λ fault. fault ≢ PathFault.NoMemory → path_given rest.now ≡ None) }
+    {
+        match rest.as_bytes() {
+            [] => Ok(Path::root(alloc)),
+            [b'/', below @ ..] => Path::read_below(alloc, below),
+            _ => Err(PathFault::EmptySegment),
+        }
+    }
+
+    fn read_below(alloc: Global, below: &[u8]) -> Result<Path, PathFault>
+        ensures ok { IfOk result (λ path. path_below below.now ≡ Ok path) }
+        ensures err { IfErr result (λ fault. fault ≢ PathFault.NoMemory → path_below below.now ≡ Err fault) }
+        ensures within { IfOk result (λ path. length (path_text path) ≤ 1024) }
+    {
+        if below.is_empty() {
+            return Ok(Path::root(alloc));
+        }
+        let segments = read_segments(alloc, without_last_slash(below))?;
+        if joined_len(segments.as_slice()) > 1024 {
+            return Err(PathFault::TooLong);
+        }
+        Ok(Path { segments })
+    }
+
+    /// Whether this is the root.
+    pub fn is_root(&self) -> bool
+        ensures { result ≡ is_root self.now }
+    {
+        self.segments.as_slice().is_empty()
+    }
+
+    /// The segments, from the root on.
+    pub fn segments(&self) -> &[Text]
+        ensures value { result.now ≡ self.now }
+        ensures sound { IsTrue (is_path self.now) }
+    {
+        self.segments.as_slice()
+    }
+
+    /// The last segment; the root has none.
+    pub fn last(&self) -> Option<&Text>
+        ensures { option_copied result ≡ last self.now }
+    {
+        self.segments.as_slice().last()
+    }
+
+    /// The text: each segment after a `/`, or `/` for the root.
+    pub fn text(&self) -> Result<Text, NoMemory>
+        ensures { IfOk result (λ text. text ≡ path_text self.now) }
+    {
+        let alloc = self.segments.allocator();
+        if self.is_root() {
+            return Ok(Text::of(alloc, "/")?);
+        }
+        let text = joined(alloc, self.segments.as_slice())?;
+        Ok(Text::from_string(text))
+    }
+
+    /// How many bytes the text has: 1 for the root, at most 2,048.
+    pub fn text_len(&self) -> usize
+        ensures { result ≡ length (path_text self.now) }
+    {
+        joined_len(self.segments.as_slice()).max(1)
+    }
+
+    /// The text, with each segment percent-encoded (RFC 3986 section 2.1): all but ASCII letters,
+    /// digits, `-`, `.`, `_` and `~` (section 2.3), in upper-case digits.
+    pub fn escaped(&self) -> Result<Text, NoMemory>
+        ensures { IfOk result (λ text. text ≡ path_escaped self.now) }
+    {
+        let alloc = self.segments.allocator();
+        if self.is_root() {
+            return Ok(Text::of(alloc, "/")?);
+        }
+        let text = joined_escaped(alloc, self.segments.as_slice())?;
+        Ok(Text::from_string(text))
+    }
+
+    /// The path without its last segment; the root's is the root.
+    pub fn parent(&self) -> Result<Path, NoMemory>
+        ensures value { IfOk result (λ path. path ≡ parent self.now) }
+        ensures no_longer { IfOk result (λ path. length (path_text path) ≤ length (path_text self.now)) }
+    {
+        let all = self.segments.as_slice();
+        let mut segments = List::new(self.segments.allocator());
+        add_copies(&mut segments, &all[..all.len().saturating_sub(1)])?;
+        Ok(Path { segments })
+    }
+
+    /// This path with those segments below it.
+    pub fn join(&self, below: &Path) -> Result<Path, NoMemory>
+        requires this { length (path_text self.now) ≤ 1024 }
+        requires below { length (path_text below.now) ≤ 1024 }
+        ensures { IfOk result (λ path. path ≡ self.now ++ below.now) }
+    {
+        let mut segments = self.segments.copy()?;
+        add_copies(&mut segments, below.segments.as_slice())?;
+        Ok(Path { segments })
+    }
+
+    /// A copy.
+    pub fn copy(&self) -> Result<Path, NoMemory>
+        ensures { IfOk result (λ path. path ≡ self.now) }
+    {
+        let segments = self.segments.copy()?;
+        Ok(Path { segments })
+    }
+
+    /// Whether the other path is this one or above it.
+    pub fn starts_with(&self, above: &Path) -> bool
+        ensures { result ≡ is_above above.now self.now }
+    {
+        self.segments
+            .as_slice()
+            .starts_with(above.segments.as_slice())
+    }
+}
+
+impl Hash for Path {
+    ghost use Rattle.std.specs.Hash as fed;
+    ghost use Rattle.std.specs.Cmp.Lexicographic.{bytes_decides};
+
+    ghost hash_input = { λ path. fed.slice fed.str path };
+
+    ghost respects_eq = { (fed.items_Alike (fed.same_Alike fed.str bytes_decides)).fed };
+
+    fn hash<H: Hasher>(&self, state: &mut H) {
+        self.segments.as_slice().hash(state);
+    }
+}

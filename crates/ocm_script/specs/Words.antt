@@ -1,0 +1,114 @@
+-- The words of a line, and what a word of each kind is read as.
+use Rattle.std.specs.Prelude.{ℕ, ◌+◌, List, [], ◌∷◌, length, take, drop, nat_eq, nat_le, Bool, false, Option, Some, None, position, find, bytes_eq, option_map, option_and_then, if◌then◌else◌}
+use Rattle.std.specs.Str.{is_utf8}
+use Rattle.ocm_base.specs.Decimal.{decimal_of}
+use Rattle.ocm_types.specs.Texts as texts
+use Rattle.ocm_types.specs.Draws.{fresh_of}
+use Rattle.ocm_types.specs.Rights.{perms_of}
+use Rattle.ocm_types.specs.Hosts.{canonical_host_of}
+use Rattle.ocm_types.specs.Addresses.{canonical_address_of}
+use Rattle.ocm_types.specs.declared.addresses.Address.{Address}
+use Rattle.ocm_types.specs.declared.rights.Rights.{Rights}
+use Rattle.ocm_path.specs.Paths.{path_given}
+
+-- one reading after another, as long as each gives something
+infixl 10 ◌>>=◌
+abbrev pub ◌>>=◌ : {A B : Type 0} → Option A → (A → Option B) → Option B
+o >>= f = option_and_then f o
+
+-- the value, where a test holds
+abbrev pub when : {A : Type 0} → Bool → A → Option A
+when b x = if b then Some x else None
+
+-- whether a byte is a space
+abbrev pub is_space : ℕ → Bool
+is_space b = nat_eq b 32
+
+-- what stands before a place, and what follows it; all, and nothing, where there is no such place
+abbrev pub cut_at : List ℕ → Option ℕ → List ℕ × Option (List ℕ)
+cut_at line None = (line, None)
+cut_at line (Some i) = (take i line, Some (drop (i + 1) line))
+
+-- the word before the first space, and what follows that space, where there is one
+abbrev pub cut : List ℕ → List ℕ × Option (List ℕ)
+cut line = cut_at line (position is_space line)
+
+-- the next word of what follows a space, where there was one
+abbrev pub word : Option (List ℕ) → Option (List ℕ × Option (List ℕ))
+word rest = option_map cut rest
+
+-- the end of a line: no space, and so no word, follows
+abbrev pub ended : Option (List ℕ) → Option (Unit {0})
+ended None = Some tt
+ended (Some rest) = None
+
+-- what follows a front, where bytes begin so
+unfoldable pub after : List ℕ → List ℕ → Option (List ℕ)
+after front bytes = if bytes_eq (take (length front) bytes) front then Some (drop (length front) bytes) else None
+
+-- a word that is UTF-8
+abbrev pub text_of : List ℕ → Option (List ℕ)
+text_of word = when (is_utf8 word) word
+
+-- a user's name
+unfoldable pub name_word : List ℕ → Option (List ℕ)
+name_word word = do
+  text ← text_of word
+  texts.name_of text
+
+-- a secret
+unfoldable pub secret_word : List ℕ → Option (List ℕ)
+secret_word word = do
+  text ← text_of word
+  texts.secret_of text
+
+-- 32 lower-case hexadecimal digits
+unfoldable pub fresh_word : List ℕ → Option (List ℕ)
+fresh_word word = do
+  text ← text_of word
+  fresh_of text
+
+-- a host in its canonical text
+unfoldable pub host_word : List ℕ → Option (List ℕ)
+host_word word = do
+  text ← text_of word
+  canonical_host_of text
+
+-- the address whose canonical text this is
+unfoldable pub address_in : List ℕ → Option Address
+address_in text = canonical_address_of text
+
+-- an address in its canonical text
+unfoldable pub address_word : List ℕ → Option Address
+address_word word = do
+  text ← text_of word
+  address_in text
+
+-- one to three permissions
+unfoldable pub perms_word : List ℕ → Option Rights
+perms_word word = do
+  text ← text_of word
+  perms_of text
+
+-- a decimal of at most that number
+unfoldable pub number_word : ℕ → List ℕ → Option ℕ
+number_word most word = do
+  text ← text_of word
+  number ← decimal_of text
+  when (nat_le number most) number
+
+-- whether a text begins with `/`
+abbrev pub begins_with_slash : List ℕ → Bool
+begins_with_slash [] = false
+begins_with_slash (b ∷ bs) = nat_eq b 47
+
+-- a path as it stands in a URL, which begins with `/`
+unfoldable pub path_word : List ℕ → Option (List (List ℕ))
+path_word word = do
+  text ← text_of word
+  _ ← when (begins_with_slash text) text
+  path_given text
+
+-- the host among these that the word names
+abbrev pub known : List (List ℕ) → List ℕ → Option (List ℕ)
+known named word = find (λ host. bytes_eq host word) named

@@ -1,0 +1,61 @@
+ghost use Rattle.std.specs.Prelude.{◌≡◌, ◌≢◌, ◌<◌, ◌≤◌, ◌↔◌, [], length, Err, IfOk, IsTrue};
+ghost use Rattle.std.specs.List.{list_all};
+ghost use Rattle.ocm_script.specs.Events.{has_short_path};
+ghost use Rattle.ocm_script.specs.Lines.{lines_of, most_lines};
+ghost use Rattle.ocm_script.specs.Script as script;
+ghost use Rattle.ocm_script.specs.Script.{Reads, script_of};
+
+use crate::events::Event;
+use crate::faults::{LineFault, ScriptFault};
+use crate::forms::event_of;
+use crate::lines::{count_lines, first_line};
+use ocm_base::List;
+use std::alloc::Global;
+
+/// The most lines of a script.
+const MOST_LINES: usize = 100_000;
+
+/// Reads a script: the event of each of its lines, in their order.
+pub fn read_script(alloc: Global, bytes: &[u8]) -> Result<List<Event>, ScriptFault>
+    ensures exact { Reads result (script_of bytes.now) }
+    ensures each_line { IfOk result (λ events. length events ≡ length (lines_of bytes.now)) }
+    ensures within { IfOk result (λ events. length events ≤ most_lines) }
+    ensures short { IfOk result (λ events. IsTrue (list_all has_short_path events)) }
+    ensures too_many { (result ≡ Err ScriptFault.TooMany)
+        ↔ (most_lines < length (lines_of bytes.now)) }
+{
+    if count_lines(bytes) > MOST_LINES {
+        return Err(ScriptFault::TooMany);
+    }
+    let events = events_of(alloc, bytes)?;
+    Ok(events)
+}
+
+/// The events of at most so many lines.
+fn events_of(alloc: Global, bytes: &[u8]) -> Result<List<Event>, ScriptFault>
+    requires { length (lines_of bytes.now) ≤ most_lines }
+    ensures exact { Reads result (script.events_of 1 [] (lines_of bytes.now)) }
+    ensures each_line { IfOk result (λ events. length events ≡ length (lines_of bytes.now)) }
+    ensures short { IfOk result (λ events. IsTrue (list_all has_short_path events)) }
+    ensures not_many { result ≢ Err ScriptFault.TooMany }
+{
+    let mut events = List::new(alloc);
+    let mut named = List::new(alloc);
+    let mut rest = bytes;
+    let mut number: u32 = 1;
+    while !rest.is_empty() {
+        let (line, behind) = first_line(rest);
+        let event = match event_of(alloc, named.as_slice(), line) {
+            Ok(event) => event,
+            Err(LineFault::Bad) => return Err(ScriptFault::Line(number)),
+            Err(LineFault::NoMemory) => return Err(ScriptFault::NoMemory),
+        };
+        if let Event::Node { host } = &event {
+            named.push(host.copy()?)?;
+        }
+        events.push(event)?;
+        rest = behind;
+        number += 1;
+    }
+    Ok(events)
+}

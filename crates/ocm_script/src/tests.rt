@@ -1,0 +1,164 @@
+use crate::{ScriptFault, read_script};
+use ocm_base::{Bytes, NoMemory};
+use std::alloc::Global;
+use std::test::Fail;
+
+/// Whether these bytes are a script.
+fn is_script(alloc: Global, before: &[u8], line: &[u8]) -> Result<bool, NoMemory> {
+    let mut script = Bytes::of(alloc, before)?;
+    script.add(line)?;
+    match read_script(alloc, script.as_slice()) {
+        Ok(_) => Ok(true),
+        Err(ScriptFault::NoMemory) => Err(NoMemory),
+        Err(_) => Ok(false),
+    }
+}
+
+#[test]
+fn each_form_and_its_neighbours(rt: HostRuntime) -> Result<(), Fail> {
+    let alloc = rt.alloc();
+    let first_lines = [
+        ("", true),
+        ("\n\n", true),
+        ("# node", true),
+        (" # node", false),
+        ("node a.example", true),
+        ("node a.example:8080\n", true),
+        ("node A.example", false),
+        ("node a.example:80", false),
+        ("node http://a.example", false),
+        ("node a.example b.example", false),
+        ("node a.example ", false),
+        ("node ", false),
+        ("node", false),
+        ("get a.example k /", false),
+    ];
+    for (line, is) in first_lines {
+        assert_eq!(rt; is_script(alloc, b"", line.as_bytes())?, is, "{line}");
+    }
+    let lines = [
+        ("node b.example", false),
+        ("node a.example", false),
+        (
+            "user a.example alice 000102030405060708090a0b0c0d0e0f",
+            true,
+        ),
+        (
+            "user a.example alice@home 000102030405060708090a0b0c0d0e0f",
+            true,
+        ),
+        (
+            "user a.example alice 000102030405060708090A0b0c0d0e0f",
+            false,
+        ),
+        (
+            "user a.example alice 000102030405060708090a0b0c0d0e0",
+            false,
+        ),
+        (
+            "user a.example alice 000102030405060708090a0b0c0d0e0f ",
+            false,
+        ),
+        (
+            "user a.example alice 000102030405060708090a0b0c0d0e0f\r",
+            false,
+        ),
+        (
+            "user a.example  alice 000102030405060708090a0b0c0d0e0f",
+            false,
+        ),
+        (
+            "user\ta.example alice 000102030405060708090a0b0c0d0e0f",
+            false,
+        ),
+        (
+            "user a.example al/ice 000102030405060708090a0b0c0d0e0f",
+            false,
+        ),
+        (
+            "user b.example alice 000102030405060708090a0b0c0d0e0f",
+            false,
+        ),
+        ("user a.example alice", false),
+        ("put a.example k /p text:", true),
+        ("put a.example k /p text:two  words and \r", true),
+        ("put a.example k /p Text:a", false),
+        ("put a.example k /p text", false),
+        ("put a.example k p text:a", false),
+        ("put a.example k:k /p text:a", false),
+        ("put a.example k /p", false),
+        ("put a.example k /p hex:", true),
+        ("put a.example k /p hex:00ff", true),
+        ("put a.example k /p hex:00f", false),
+        ("put a.example k /p hex:00FF", false),
+        ("put a.example k /p hex:00 ", false),
+        ("put a.example k /p fill:00:2000000", true),
+        ("put a.example k /p fill:ff:0", true),
+        ("put a.example k /p fill:00:2000001", false),
+        ("put a.example k /p fill:0:1", false),
+        ("put a.example k /p fill:000:1", false),
+        ("put a.example k /p fill:FF:1", false),
+        ("put a.example k /p fill:00:01", false),
+        ("put a.example k /p fill:00:", false),
+        ("put a.example k /p fill:00:1 1", false),
+        ("get a.example k /", true),
+        ("get a.example k /a/b%20c", true),
+        ("get a.example k /a b", false),
+        ("get a.example k a", false),
+        ("get a.example k /a%2fb", false),
+        ("get a.example k /a/..", false),
+        ("get a.example k ", false),
+        ("get a.example k", false),
+        ("Get a.example k /", false),
+        (
+            "share a.example k /p bob@b.example read 000102030405060708090a0b0c0d0e0f",
+            true,
+        ),
+        (
+            "share a.example k /p bob@b.example:90 read,write,share 000102030405060708090a0b0c0d0e0f",
+            true,
+        ),
+        (
+            "share a.example k /p bob@B.example read 000102030405060708090a0b0c0d0e0f",
+            false,
+        ),
+        (
+            "share a.example k /p bob@b.example:80 read 000102030405060708090a0b0c0d0e0f",
+            false,
+        ),
+        (
+            "share a.example k /p bob@http://b read 000102030405060708090a0b0c0d0e0f",
+            false,
+        ),
+        (
+            "share a.example k /p b.example read 000102030405060708090a0b0c0d0e0f",
+            false,
+        ),
+        (
+            "share a.example k /p bob@b.example write,read 000102030405060708090a0b0c0d0e0f",
+            false,
+        ),
+        ("share a.example k /p bob@b.example read", false),
+        ("unshare a.example k 0", true),
+        ("unshare a.example k 4294967295", true),
+        ("unshare a.example k 4294967296", false),
+        ("unshare a.example k 00", false),
+        ("unshare a.example k 1 2", false),
+        ("unshare a.example k", false),
+        ("list a.example k", false),
+    ];
+    for (line, is) in lines {
+        assert_eq!(rt;
+            is_script(alloc, b"node a.example\n", line.as_bytes())?,
+            is,
+            "{line}"
+        );
+    }
+    assert!(rt; is_script(alloc, b"node a.example\n", b"put a.example k /p text:\xff")?);
+    assert!(rt; !is_script(alloc, b"node a.example\n", b"get a.example \xff /")?);
+    assert!(rt; is_script(alloc, b"#", &[0xff; 4095])?);
+    assert!(rt; !is_script(alloc, b"#", &[0xff; 4096])?);
+    let two_bad = read_script(alloc, b"node a.example\n\nbad\nbad\n");
+    assert_eq!(rt; two_bad.err(), Some(ScriptFault::Line(3)));
+    Ok(())
+}

@@ -1,0 +1,6 @@
+pub mod Addresses
+pub mod Draws
+pub mod Hosts
+pub mod Reads
+pub mod Rights
+pub mod Texts

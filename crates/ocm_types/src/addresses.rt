@@ -1,0 +1,162 @@
+//! The address of a user at a server, and how its text is read.
+
+ghost use Rattle.std.specs.Prelude.{◌≡◌, IfOk};
+ghost use Rattle.ocm_types.specs.Hosts.{Gives};
+ghost use Rattle.ocm_types.specs.Addresses as addresses;
+
+use crate::address_faults::AddressFault;
+use crate::hosts::Host;
+use crate::names::Name;
+use crate::texts::TextFault;
+use ocm_base::{Copied, NoMemory, Text};
+use std::alloc::Global;
+
+/// A user at a server.
+#[derive(Debug, Drop, PartialEq, Eq, PartialOrd, Ord, Hash)]
+pub struct Address {
+    /// The user's name. It may have an `@`.
+    pub user: Name,
+    /// The user's server.
+    pub host: Host,
+}
+
+impl Address {
+    /// Reads an address. What stands before the last `@` is the user's name, and what follows it is
+    /// read as `Host::read` reads.
+    pub fn read(alloc: Global, s: &str) -> Result<Address, AddressFault>
+        ensures { Gives (λ a. a) result (addresses.address_of s.now) }
+    {
+        let (user, host) = parts(s)?;
+        let user = read_user(alloc, user)?;
+        let host = Host::read(alloc, host)?;
+        Ok(Address { user, host })
+    }
+
+    /// The address whose own text this is, and `None` for every other text.
+    pub fn read_canonical(alloc: Global, s: &str) -> Result<Option<Address>, NoMemory>
+        ensures { IfOk result (λ a. a ≡ addresses.canonical_address_of s.now) }
+    {
+        match Address::read(alloc, s) {
+            Ok(address) => {
+                let text = address.text(alloc)?;
+                if text.as_str() == s {
+                    Ok(Some(address))
+                } else {
+                    Ok(None)
+                }
+            }
+            Err(AddressFault::NoMemory) => Err(NoMemory),
+            Err(_) => Ok(None),
+        }
+    }
+
+    /// The user's name, `@` and the host's text.
+    pub fn text(&self, alloc: Global) -> Result<Text, NoMemory>
+        ensures { IfOk result (λ t. t ≡ addresses.address_text self.now) }
+    {
+        let mut text = String::from_str(alloc, self.user.as_str())?;
+        text.push('@')?;
+        text.push_str(self.host.as_str())?;
+        Ok(Text::from_string(text))
+    }
+
+    /// The same address once more.
+    pub fn copy(&self) -> Result<Address, NoMemory>
+        ensures { IfOk result (λ a. a ≡ self.now) }
+    {
+        let user = self.user.copy()?;
+        let host = self.host.copy()?;
+        Ok(Address { user, host })
+    }
+}
+
+impl Copied for Address {
+    fn copied(&self) -> Result<Address, NoMemory> {
+        self.copy()
+    }
+}
+
+/// The text before the last `@`, and the one behind it.
+fn parts(s: &str) -> Result<(&str, &str), AddressFault>
+    ensures { Gives (λ p. (p.0.now, p.1.now)) result (addresses.parts_of s.now) }
+{
+    s.rsplit_once('@').ok_or(AddressFault::NoAt)
+}
+
+/// The user's name.
+fn read_user(alloc: Global, s: &str) -> Result<Name, AddressFault>
+    ensures { Gives (λ n. n) result (addresses.user_of s.now) }
+{
+    match Name::read(alloc, s) {
+        Ok(name) => Ok(name),
+        Err(TextFault::Length) => Err(AddressFault::UserLength),
+        Err(TextFault::Char) => Err(AddressFault::UserChar),
+        Err(TextFault::NoMemory) => Err(AddressFault::NoMemory),
+    }
+}
+
+#[cfg(test)]
+mod tests {
+    use super::*;
+    use std::test::*;
+
+    #[test]
+    fn faults(rt: HostRuntime) {
+        let rows = [
+            ("bob", AddressFault::NoAt),
+            ("@h", AddressFault::UserLength),
+            ("a/b@h", AddressFault::UserChar),
+            ("a@", AddressFault::HostLength),
+            ("a@h_x", AddressFault::HostChar),
+            ("a@h:0", AddressFault::Port),
+            ("a@h:", AddressFault::Port),
+            ("a@h:080", AddressFault::Port),
+            ("a@h:65536", AddressFault::Port),
+            ("a@HTTP://h", AddressFault::Port),
+        ];
+        for (text, fault) in rows {
+            assert_eq!(rt; Address::read(rt.alloc(), text).err(), Some(fault));
+        }
+    }
+
+    #[test]
+    fn texts(rt: HostRuntime) -> Result<(), Fail> {
+        let rows = [
+            ("x@y@H.Example:80/", "x@y", "h.example"),
+            ("a@http://h:80", "a", "h"),
+            ("a@h:65535", "a", "h:65535"),
+        ];
+        for (text, user, host) in rows {
+            let address = Address::read(rt.alloc(), text)
+                .ok()
+                .ok_or("this is an address")?;
+            assert_eq!(rt; address.user.as_str(), user);
+            assert_eq!(rt; address.host.as_str(), host);
+        }
+        Ok(())
+    }
+
+    #[test]
+    fn own_texts(rt: HostRuntime) -> Result<(), Fail> {
+        let text = "x@y@h.example:8080";
+        let read = Address::read_canonical(rt.alloc(), text)
+            .ok()
+            .ok_or("there is memory")?;
+        let address = read.ok_or("this is an address's own text")?;
+        let copied = address.copied().ok().ok_or("there is memory")?;
+        let spelled = copied.text(rt.alloc()).ok().ok_or("there is memory")?;
+        assert!(rt; copied == address);
+        assert_eq!(rt; spelled.as_str(), text);
+        for other in ["x@H", "x@h:80", "x@http://h", "x"] {
+            let read = Address::read_canonical(rt.alloc(), other)
+                .ok()
+                .ok_or("there is memory")?;
+            assert!(rt; read.is_none());
+        }
+        let host = Host::read_canonical(rt.alloc(), "h:8080")
+            .ok()
+            .ok_or("there is memory")?;
+        assert!(rt; host.is_some());
+        Ok(())
+    }
+}

@@ -1,0 +1,273 @@
+ghost use Rattle.std.specs.Prelude.{◌≡◌, IfOk};
+
+use crate::addresses::Address;
+use crate::hosts::Host;
+use crate::identifiers::{ProviderId, SenderId};
+use crate::names::ShareName;
+use crate::rights::Perms;
+use crate::secrets::Secret;
+use ocm_base::{Copied, NoMemory};
+
+/// The same value once more, where there is one.
+fn copy_of_option<T: Copied>(value: &Option<T>) -> Result<Option<T>, NoMemory>
+    ensures { IfOk result (λ copy. copy ≡ value.now) }
+{
+    match value {
+        Some(held) => {
+            let copy = held.copied()?;
+            Ok(Some(copy))
+        }
+        None => Ok(None),
+    }
+}
+
+/// An offer of a share: what the body of POST to `{endPoint}/shares` says (Open Cloud Mesh API 1.1).
+#[derive(Debug, Drop, PartialEq, Eq)]
+pub struct Offer {
+    /// Who gets the share: `shareWith`.
+    pub with: Address,
+    /// What the share is called: `name`.
+    pub name: ShareName,
+    /// The owner's mark of the share: `providerId`.
+    pub id: ProviderId,
+    /// Whose files they are: `owner`.
+    pub owner: Address,
+    /// Who asked for the share: `sender`. It is the owner, or a recipient that passes a share on.
+    pub sender: Address,
+    /// What the recipient shows to reach the share: `sharedSecret`.
+    pub secret: Secret,
+    /// What the recipient may do: `permissions`.
+    pub perms: Perms,
+}
+
+impl Offer {
+    /// The same value once more.
+    pub fn copy(&self) -> Result<Offer, NoMemory>
+        ensures { IfOk result (λ copy. copy ≡ self.now) }
+    {
+        let with = self.with.copy()?;
+        let name = self.name.copy()?;
+        let id = self.id.copy()?;
+        let owner = self.owner.copy()?;
+        let sender = self.sender.copy()?;
+        let secret = self.secret.copy()?;
+        let perms = self.perms;
+        Ok(Offer {
+            with,
+            name,
+            id,
+            owner,
+            sender,
+            secret,
+            perms,
+        })
+    }
+}
+
+impl Copied for Offer {
+    fn copied(&self) -> Result<Offer, NoMemory> {
+        self.copy()
+    }
+}
+
+/// A notification about a share: what the body of POST to `{endPoint}/notifications` says (Open Cloud Mesh API 1.1). In
+/// each, `id` is its `providerId` and `secret` its `sharedSecret`: those of the share, as its offer gave them.
+#[derive(Debug, Drop, PartialEq, Eq)]
+pub enum Notice {
+    /// `SHARE_ACCEPTED`: the recipient took the share. What is present of the owner, the recipient and the permissions
+    /// says how the recipient understood the offer.
+    Accepted {
+        id: ProviderId,
+        secret: Secret,
+        /// `owner`.
+        owner: Option<Address>,
+        /// `shareWith`.
+        with: Option<Address>,
+        /// `permissions`.
+        perms: Option<Perms>,
+    },
+    /// `SHARE_DECLINED`: the recipient did not want the share, or gave it up.
+    Declined {
+        id: ProviderId,
+        secret: Secret,
+    },
+    /// `SHARE_UNSHARED`: the owner took the share back.
+    Unshared {
+        id: ProviderId,
+        secret: Secret,
+    },
+    /// `REQUEST_RESHARE`: the recipient asks the owner to share with another.
+    ReshareRequest {
+        id: ProviderId,
+        secret: Secret,
+        /// The other: `shareWith`.
+        with: Address,
+        /// The recipient's mark of this request: `senderId`.
+        sender_id: SenderId,
+        /// What the other may do: `permissions`. None leaves it to the owner.
+        perms: Option<Perms>,
+    },
+    /// `RESHARE_UNDO`: a share that was made at a recipient's request ends.
+    ReshareUndo {
+        id: ProviderId,
+        secret: Secret,
+    },
+    /// `RESHARE_CHANGE_PERMISSION`: the owner changed what the recipient may do.
+    Changed {
+        id: ProviderId,
+        secret: Secret,
+        /// Which change this is, from 1: a later one has a higher number.
+        serial: u32,
+        /// What the recipient may do from now on: `permissions`.
+        perms: Perms,
+    },
+}
+
+impl Notice {
+    /// The same value once more.
+    pub fn copy(&self) -> Result<Notice, NoMemory>
+        ensures { IfOk result (λ copy. copy ≡ self.now) }
+    {
+        match self {
+            Notice::Accepted {
+                id,
+                secret,
+                owner,
+                with,
+                perms,
+            } => {
+                let id = id.copy()?;
+                let secret = secret.copy()?;
+                let owner = copy_of_option(owner)?;
+                let with = copy_of_option(with)?;
+                Ok(Notice::Accepted {
+                    id,
+                    secret,
+                    owner,
+                    with,
+                    perms: *perms,
+                })
+            }
+            Notice::Declined { id, secret } => {
+                let id = id.copy()?;
+                let secret = secret.copy()?;
+                Ok(Notice::Declined { id, secret })
+            }
+            Notice::Unshared { id, secret } => {
+                let id = id.copy()?;
+                let secret = secret.copy()?;
+                Ok(Notice::Unshared { id, secret })
+            }
+            Notice::ReshareRequest {
+                id,
+                secret,
+                with,
+                sender_id,
+                perms,
+            } => {
+                let id = id.copy()?;
+                let secret = secret.copy()?;
+                let with = with.copy()?;
+                let sender_id = sender_id.copy()?;
+                Ok(Notice::ReshareRequest {
+                    id,
+                    secret,
+                    with,
+                    sender_id,
+                    perms: *perms,
+                })
+            }
+            Notice::ReshareUndo { id, secret } => {
+                let id = id.copy()?;
+                let secret = secret.copy()?;
+                Ok(Notice::ReshareUndo { id, secret })
+            }
+            Notice::Changed {
+                id,
+                secret,
+                serial,
+                perms,
+            } => {
+                let id = id.copy()?;
+                let secret = secret.copy()?;
+                Ok(Notice::Changed {
+                    id,
+                    secret,
+                    serial: *serial,
+                    perms: *perms,
+                })
+            }
+        }
+    }
+}
+
+impl Copied for Notice {
+    fn copied(&self) -> Result<Notice, NoMemory> {
+        self.copy()
+    }
+}
+
+/// What one server sends another.
+#[derive(Debug, Drop, PartialEq, Eq)]
+pub enum Letter {
+    /// An offer, for the shares end point.
+    Offer(Offer),
+    /// A notification, for the notifications end point.
+    Notice(Notice),
+}
+
+impl Letter {
+    /// The same value once more.
+    pub fn copy(&self) -> Result<Letter, NoMemory>
+        ensures { IfOk result (λ copy. copy ≡ self.now) }
+    {
+        match self {
+            Letter::Offer(offer) => {
+                let offer = offer.copy()?;
+                Ok(Letter::Offer(offer))
+            }
+            Letter::Notice(notice) => {
+                let notice = notice.copy()?;
+                Ok(Letter::Notice(notice))
+            }
+        }
+    }
+}
+
+impl Copied for Letter {
+    fn copied(&self) -> Result<Letter, NoMemory> {
+        self.copy()
+    }
+}
+
+/// A letter that waits to be sent.
+#[derive(Debug, Drop, PartialEq, Eq)]
+pub struct Numbered {
+    /// Its number among the letters of its server.
+    pub number: u32,
+    /// The server that it is for.
+    pub to: Host,
+    /// What it says.
+    pub letter: Letter,
+}
+
+impl Numbered {
+    /// The same value once more.
+    pub fn copy(&self) -> Result<Numbered, NoMemory>
+        ensures { IfOk result (λ copy. copy ≡ self.now) }
+    {
+        let to = self.to.copy()?;
+        let letter = self.letter.copy()?;
+        Ok(Numbered {
+            number: self.number,
+            to,
+            letter,
+        })
+    }
+}
+
+impl Copied for Numbered {
+    fn copied(&self) -> Result<Numbered, NoMemory> {
+        self.copy()
+    }
+}

@@ -1,0 +1,125 @@
+use Rattle.std.specs.Prelude.{◌≡◌, ℕ, ◌+◌, List, [], ◌∷◌, ◌++◌, take, Bool, true, false, if◌then◌else◌, Option, Some, None, option_map, codes}
+use Rattle.std.specs.Option.{option_map_or}
+use Rattle.ocm_base.specs.Outside.{Appends}
+use Rattle.ocm_entry.specs.declared.asks.Ask.{Ask}
+use Rattle.ocm_entry.specs.declared.replies.Reply.{Reply}
+use Rattle.ocm_entry.specs.declared.replies.Reply.TheVariants.{NoMemory}
+use Rattle.ocm_entry.specs.declared.entries.Entry.{Entry}
+use Rattle.ocm_rules.specs.Numbers.{same_text}
+use Rattle.ocm_rules.specs.Answers.{answer}
+use Rattle.ocm_rules.specs.State.{Stands}
+use Rattle.ocm_core.specs.Plans.{Tables}
+use Rattle.ocm_script.specs.declared.events.Event.{Event}
+use Rattle.ocm_world.specs.Asked.{ask_of, host_of, node_of}
+use Rattle.ocm_world.specs.Texts.{reply_text, line_text}
+
+-- a server of a script: its host, and its history, the newest entry first
+pub record Server : Type 0 where
+  pub host : List ℕ
+  pub history : List Entry
+
+-- a server before its first entry
+abbrev pub new_server : List ℕ → Server
+new_server host = record { host = host; history = [] }
+
+-- the reply to an ask: want of memory where it was wanting, else the answer of the rules
+abbrev pub reply_of : Bool → Server → Ask → Reply
+reply_of true server ask = NoMemory
+reply_of false server ask = answer server.host server.history ask
+
+-- the server with the ask and its reply behind it
+abbrev pub server_after : Bool → Server → Ask → Server
+server_after wanting server ask = record { host = server.host; history = record { ask = ask; reply = reply_of wanting server ask } ∷ server.history }
+
+-- whether a line names this server
+abbrev pub is_named : Server → Event → Bool
+is_named server e = option_map_or (same_text server.host) (host_of e) false
+
+-- the ask of a line to this server, if it is one
+abbrev pub ask_to : Server → Event → Option Ask
+ask_to server e = if is_named server e then ask_of e else None
+
+-- the server after a line that is no `node`
+abbrev pub asked_server : Bool → Server → Option Ask → Server
+asked_server wanting server None = server
+asked_server wanting server (Some ask) = server_after wanting server ask
+
+-- what such a line prints
+abbrev pub asked_text : Bool → Server → ℕ → Option Ask → List ℕ
+asked_text wanting server number None = []
+asked_text wanting server number (Some ask) = line_text number (reply_text (reply_of wanting server ask))
+
+-- the script's server, if there is one, after a line that makes a server or makes none
+abbrev pub next_by : Bool → Option Server → Option (List ℕ) → Event → Option Server
+next_by wanting world (Some host) e = Some (new_server host)
+next_by wanting None None e = None
+next_by wanting (Some server) None e = Some (asked_server wanting server (ask_to server e))
+
+-- the script's server after a line: `node` makes it, and of the others only those that name it do something
+abbrev pub next : Bool → Option Server → Event → Option Server
+next wanting world e = next_by wanting world (node_of e) e
+
+-- what a line prints that makes a server or makes none
+abbrev pub printed_by : Bool → Option Server → ℕ → Option (List ℕ) → Event → List ℕ
+printed_by wanting world number (Some host) e = line_text number (codes "node")
+printed_by wanting None number None e = []
+printed_by wanting (Some server) number None e = asked_text wanting server number (ask_to server e)
+
+-- what a line prints
+abbrev pub printed : Bool → Option Server → ℕ → Event → List ℕ
+printed wanting world number e = printed_by wanting world number (node_of e) e
+
+-- The lines, from this world and this line's number on, print this text. Memory may be wanting at each of them; all else is fixed.
+abbrev pub Transcript : Option Server → ℕ → List Event → List ℕ → Type 0
+Transcript world number [] text = text ≡ []
+Transcript world number (e ∷ events) text =
+    (wanting : Bool) × (rest : List ℕ) × (text ≡ printed wanting world number e ++ rest) × Transcript (next wanting world e) (number + 1) events rest
+
+-- the text added is a transcript of the script
+abbrev pub Writes : List Event → Option (List ℕ) → Option (List ℕ) → Type 0
+Writes events old new = (text : List ℕ) × Appends old new text × Transcript None 1 events text
+
+-- the text added is a front of a transcript of the script
+abbrev pub WritesPart : List Event → Option (List ℕ) → Option (List ℕ) → Type 0
+WritesPart events old new = (text : List ℕ) × (rest : List ℕ) × Appends old new text × Transcript None 1 events (text ++ rest)
+
+-- the server's tables stand for the world
+abbrev pub IsAt : Option Tables → Option Server → Type 0
+IsAt None None = Unit {0}
+IsAt (Some tables) (Some server) = (tables.state.host ≡ server.host) × Stands tables.state server.history
+IsAt None (Some server) = ⊥
+IsAt (Some tables) None = ⊥
+
+-- the ask of a line, if it is one, was answered so: for some answer to whether memory was wanting, the reply is that of the rules, and the tables stand for the server after it
+abbrev pub Answers : Server → Tables → Option Ask → Option Reply → Type 0
+Answers server tables ask reply =
+    (wanting : Bool) × (reply ≡ option_map (reply_of wanting server) ask) × IsAt (Some tables) (Some (asked_server wanting server ask))
+
+-- a front of the text was added
+abbrev pub AppendsFront : Option (List ℕ) → Option (List ℕ) → List ℕ → Type 0
+AppendsFront old new text = (n : ℕ) × Appends old new (take n text)
+
+-- a line was run whole at the server: its text was added, and the tables stand for the server after it
+abbrev pub RunsAt : Server → Tables → ℕ → Event → Option (List ℕ) → Option (List ℕ) → Type 0
+RunsAt server tables number e old new =
+    (wanting : Bool) × Appends old new (asked_text wanting server number (ask_to server e)) × IsAt (Some tables) (Some (asked_server wanting server (ask_to server e)))
+
+-- a line was not run whole at the server: a front of its text was added
+abbrev pub StopsAt : Server → ℕ → Event → Option (List ℕ) → Option (List ℕ) → Type 0
+StopsAt server number e old new = (wanting : Bool) × AppendsFront old new (asked_text wanting server number (ask_to server e))
+
+-- a line was run whole: for some answer to whether memory was wanting, its text was added, and the tables stand for the world after it
+abbrev pub Runs : Option Server → Option Tables → ℕ → Event → Option (List ℕ) → Option (List ℕ) → Type 0
+Runs world tables number e old new = (wanting : Bool) × Appends old new (printed wanting world number e) × IsAt tables (next wanting world e)
+
+-- a line was not run whole: a front of its text was added
+abbrev pub Stops : Option Server → ℕ → Event → Option (List ℕ) → Option (List ℕ) → Type 0
+Stops world number e old new = (wanting : Bool) × AppendsFront old new (printed wanting world number e)
+
+-- so far, whatever the rest prints, what was written and that is a transcript of the whole
+pub record GoesOn (all : List Event) (tables : Option Tables) (number : ℕ) (rest : List Event) (old new : Option (List ℕ)) : Type 0 where
+  pub world : Option Server
+  pub text : List ℕ
+  pub stands : IsAt tables world
+  pub appends : Appends old new text
+  pub on : (t : List ℕ) → Transcript world number rest t → Transcript None 1 all (text ++ t)

@@ -1,0 +1,8 @@
+//! A server that is run from a script, and the transcript of what it answered.
+#![tactic(auto)]
+
+mod asked;
+mod replays;
+mod texts;
+
+pub use replays::{WorldFault, replay};
