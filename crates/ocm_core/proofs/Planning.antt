@@ -1,41 +1,31 @@
-use Rattle.std.proofs.Common.{◌≡◌, ℕ, zero, suc, ◌+◌, ◌<◌, ◌≤◌, List, [], ◌∷◌, ◌++◌, length, Bool, true, false, cond, ◌⊎◌, inl, inr, Option, Some, None, refl, sym, ap, ◌∙◌, subst, rules, arith}
+use Rattle.std.proofs.Common.{◌≡◌, ℕ, zero, suc, ◌+◌, ◌<◌, ◌≤◌, List, [], ◌∷◌, length, Bool, true, false, cond, ◌⊎◌, inl, inr, Option, Some, None, refl, sym, ap, ◌∙◌, subst, arith}
 use Rattle.std.proofs.lemmas.Option.{slice_get_cases}
 use Rattle.std.proofs.lemmas.Bool.Decides.{nat_tests}
 use Rattle.ocm_base.specs.Hex.{hex}
-use Rattle.std.specs.Prelude.{not, is_some, slice_get, nat_eq, nat_lt, option_map, option_and_then, IsSome, IfSome, IsTrue}
+use Rattle.std.specs.Prelude.{is_some, slice_get, nat_eq, nat_lt, option_map, option_and_then, IsSome, IfSome, IsTrue}
 use Rattle.ocm_types.specs.declared.addresses.Address.{Address}
 use Rattle.ocm_types.specs.declared.rights.Rights.{Rights}
-use Rattle.ocm_types.specs.declared.phases.Which.{Which}
 use Rattle.ocm_path.specs.Paths.{Segments, is_root}
 use Rattle.ocm_entry.specs.declared.asks.Ask.{Ask}
 use Rattle.ocm_entry.specs.declared.asks.Ask.TheVariants as asks
-use Rattle.ocm_entry.specs.declared.asks.Cmd.{Cmd}
 use Rattle.ocm_entry.specs.declared.asks.Cmd.TheVariants as commands
-use Rattle.ocm_entry.specs.declared.asks.Method.{Method}
-use Rattle.ocm_entry.specs.declared.asks.Method.TheVariants as methods
 use Rattle.ocm_entry.specs.declared.refusals.Why.{Why}
 use Rattle.ocm_entry.specs.declared.replies.Reply.{Reply}
-use Rattle.ocm_entry.specs.declared.replies.Reply.TheVariants.{Number, Done, Created, Replaced, Refused}
-use Rattle.ocm_entry.specs.declared.refusals.Why.TheVariants.{NotFound, WrongPhase, Limit, Collision, OwnHost, NotAllowed, ParentMissing}
+use Rattle.ocm_entry.specs.declared.replies.Reply.TheVariants.{Number, Done, Refused}
+use Rattle.ocm_entry.specs.declared.refusals.Why.TheVariants.{NotFound, WrongPhase, Limit, Collision, OwnHost}
 use Rattle.ocm_entry.specs.declared.refusals.AddressField.TheVariants.{ShareWith}
 use Rattle.ocm_types.specs.declared.phases.Which.TheVariants.{Shares}
 use Rattle.ocm_entry.specs.declared.rows.User.{User}
 use Rattle.ocm_entry.specs.declared.rows.Share.{Share}
-use Rattle.ocm_entry.specs.declared.rows.Node.{Node}
-use Rattle.ocm_entry.specs.declared.rows.Place.{Place}
-use Rattle.ocm_entry.specs.declared.rows.Grant.{Grant}
 use Rattle.ocm_entry.specs.declared.rows.Standing.{Standing}
-use Rattle.ocm_entry.specs.declared.rows.Standing.TheVariants.{Collection, File}
 use Rattle.ocm_rules.specs.Numbers.{same_text, added, number_from, number_of, at_number}
 use Rattle.ocm_rules.specs.Users.{user_of_key, has_key}
-use Rattle.ocm_rules.specs.Shares.{is_used, own_share, share_by, grant_of, holder_among, root_of, Holder, Nobody, Account, Guest, need_of}
-use Rattle.ocm_rules.specs.Files.{below, file_at, placed_by, parent_of, limit_of}
+use Rattle.ocm_rules.specs.Shares.{is_used, own_share, share_by}
 use Rattle.ocm_rules.specs.History.{changes_by}
-use Rattle.ocm_rules.specs.Answers.{is_short, get_reply, put_done, put_reply, is_collection, method_reply, unshare_reply, share_reply, made_reply, dav_reply}
-use Rattle.ocm_rules.specs.State.{State, reply_in, local_reply_in, after, step, standing_among, grant_in, is_live_in}
+use Rattle.ocm_rules.specs.Answers.{is_short, unshare_reply, share_reply}
+use Rattle.ocm_rules.specs.State.{State, reply_in, local_reply_in, after, step, standing_among, is_live_in}
 use Rattle.ocm_core.specs.Plans.{Plan, Plans, Fits, FitsShare, changed, is_kept}
 use Rattle.ocm_core.specs.Commands.{share_refusal, share_reply_in, share_change, share_row, close_change}
-use Rattle.ocm_core.specs.Requests.{put_refusal, put_change, method_change}
 use Rattle.ocm_core.specs.declared.changes.Change.{Change}
 use Rattle.ocm_core.specs.declared.changes.Change.TheVariants as changes
 

@@ -1,5 +1,5 @@
-use Rattle.std.proofs.Common.{◌≡◌, ℕ, List, ◌++◌, Bool, true, false, cond, ◌⊎◌, inl, inr, Option, Some, None, refl, sym, ap, ◌∙◌, subst}
-use Rattle.std.specs.Prelude.{not, option_map, option_and_then}
+use Rattle.std.proofs.Common.{◌≡◌, ℕ, List, Bool, true, false, cond, ◌⊎◌, inl, inr, Option, Some, None, refl, sym, ap, subst}
+use Rattle.std.specs.Prelude.{not, option_and_then}
 use Rattle.std.specs.Option.{option_map_or}
 use Rattle.ocm_path.specs.Paths.{Segments, is_root}
 use Rattle.ocm_types.specs.Rights.{has}
@@ -10,7 +10,7 @@ use Rattle.ocm_entry.specs.declared.asks.Ask.TheVariants as asks
 use Rattle.ocm_entry.specs.declared.asks.Method.{Method}
 use Rattle.ocm_entry.specs.declared.asks.Method.TheVariants as methods
 use Rattle.ocm_entry.specs.declared.refusals.Why.{Why}
-use Rattle.ocm_entry.specs.declared.refusals.Why.TheVariants.{Unauthorized, NotPermitted, NotFound, NotAllowed, ParentMissing, Limit}
+use Rattle.ocm_entry.specs.declared.refusals.Why.TheVariants.{Unauthorized, NotPermitted, NotAllowed, ParentMissing, Limit}
 use Rattle.ocm_entry.specs.declared.replies.Reply.{Reply}
 use Rattle.ocm_entry.specs.declared.replies.Reply.TheVariants.{Created, Replaced, Refused}
 use Rattle.ocm_entry.specs.declared.rows.Grant.{Grant}
@@ -25,7 +25,6 @@ use Rattle.ocm_rules.specs.Answers.{get_reply, put_done, put_reply, is_collectio
 use Rattle.ocm_rules.specs.State.{State, reply_in, after, node_at, standing_among, grant_in, is_live_in, effective_in}
 use Rattle.ocm_core.specs.Plans.{Plan, Plans, Fits, changed, is_kept}
 use Rattle.ocm_core.specs.Requests.{put_refusal, put_change, method_change}
-use Rattle.ocm_core.specs.declared.changes.Change.{Change}
 use Rattle.ocm_core.specs.declared.changes.Change.TheVariants as changes
 use Rattle.ocm_core.proofs.Planning.{by_reply, Plans-refused}
 

@@ -1,9 +1,8 @@
-use Rattle.std.specs.Prelude.{◌≡◌, ℕ, ◌<◌, List, [], ◌∷◌, ◌++◌, length, Bool, true, false, Option, None, IsTrue}
+use Rattle.std.specs.Prelude.{◌≡◌, ℕ, ◌<◌, [], ◌∷◌, ◌++◌, length, Bool, true, false, None, IsTrue}
 use Rattle.ocm_entry.specs.declared.asks.Ask.{Ask}
 use Rattle.ocm_entry.specs.declared.replies.Reply.{Reply}
 use Rattle.ocm_entry.specs.declared.rows.User.{User}
 use Rattle.ocm_entry.specs.declared.rows.Share.{Share}
-use Rattle.ocm_entry.specs.declared.rows.Node.{Node}
 use Rattle.ocm_rules.specs.Users.{is_taken}
 use Rattle.ocm_rules.specs.Shares.{is_used}
 use Rattle.ocm_rules.specs.Files.{with_node, limit_of}

@@ -1,4 +1,4 @@
-use Rattle.std.specs.Prelude.{Bool, not, if◌then◌else◌, Option, Some, None, option_map}
+use Rattle.std.specs.Prelude.{Bool, not, if◌then◌else◌, Option, Some, option_map}
 use Rattle.ocm_types.specs.declared.phases.Which.{Which}
 use Rattle.ocm_entry.specs.declared.asks.Method.{Method}
 use Rattle.ocm_entry.specs.declared.asks.Method.TheVariants as methods

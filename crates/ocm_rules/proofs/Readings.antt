@@ -1,9 +1,8 @@
-use Rattle.std.proofs.Common.{◌≡◌, ℕ, ◌+◌, List, [], ◌∷◌, ◌++◌, length, Bool, true, false, cond, refl, sym, ap, ◌∙◌, rules, arith}
-use Rattle.std.specs.Prelude.{Option, Some, None, nat_eq, reverse, ◌||◌, if◌then◌else◌}
+use Rattle.std.proofs.Common.{◌≡◌, ℕ, List, [], ◌∷◌, Bool, true, false, cond, refl, sym, ap, ◌∙◌}
+use Rattle.std.specs.Prelude.{Option, Some, None, nat_eq, ◌||◌, if◌then◌else◌}
 use Rattle.std.specs.List.{list_any}
 use Rattle.std.specs.Option.{option_map_or}
 use Rattle.std.proofs.lemmas.List.Folds.{list_any-append}
-use Rattle.ocm_path.specs.Paths.{is_root}
 use Rattle.ocm_types.specs.declared.rights.Rights.{Rights}
 use Rattle.ocm_entry.specs.declared.asks.Ask.{Ask}
 use Rattle.ocm_entry.specs.declared.asks.Ask.TheVariants.{AddUser, Local, Offer, Notice, Dav, Due, Settle, Tick, Carry}
@@ -13,15 +12,14 @@ use Rattle.ocm_entry.specs.declared.entries.Entry.{Entry}
 use Rattle.ocm_entry.specs.declared.rows.Place.{Place}
 use Rattle.ocm_entry.specs.declared.rows.Share.{Share}
 use Rattle.ocm_entry.specs.declared.rows.Node.{Node}
-use Rattle.ocm_entry.specs.declared.rows.Grant.{Grant}
 use Rattle.ocm_entry.specs.declared.rows.Standing.{Standing}
 use Rattle.ocm_rules.specs.Numbers.{added}
 use Rattle.ocm_rules.specs.Users.{users, user_of_key}
-use Rattle.ocm_rules.specs.Shares.{made, is_closed, closes, closed_by, is_live, live_among, effective, grant_to, grant_of, Holder, Nobody, Account, Guest, holder}
-use Rattle.ocm_rules.specs.Files.{nodes, with_node, nodes_after, stands_after, same_place, placed_by, last_put, at, limit_of}
+use Rattle.ocm_rules.specs.Shares.{made, is_closed, closed_by, is_live, live_among, effective, grant_to, grant_of, Holder, Nobody, Account, Guest, holder}
+use Rattle.ocm_rules.specs.Files.{nodes, with_node, nodes_after, stands_after, same_place, last_put, at, limit_of}
 use Rattle.ocm_rules.specs.History.{kept, changes_by}
-use Rattle.ocm_rules.specs.Answers.{answer, answer_kept, local_reply, dav_reply}
-use Rattle.ocm_rules.specs.State.{State, state_of, is_closed_in, is_live_in, effective_in, node_at, standing_among, grant_in, local_reply_in, reply_in, after, step}
+use Rattle.ocm_rules.specs.Answers.{answer_kept, local_reply, dav_reply}
+use Rattle.ocm_rules.specs.State.{state_of, is_closed_in, is_live_in, effective_in, node_at, standing_among, grant_in, local_reply_in, reply_in, after, step}
 use Rattle.ocm_rules.proofs.Texts.{same_place-alike, same_place-third}
 
 -- the host of the lists

@@ -1,4 +1,4 @@
-use Rattle.std.specs.Prelude.{ℕ, ◌+◌, List, [], ◌∷◌, ◌++◌, length, sum_by, count_by, nat_eq, nat_lt, Bool, true, false, ◌&&◌, if◌then◌else◌, Option, Some, None, option_and_then}
+use Rattle.std.specs.Prelude.{ℕ, List, [], ◌∷◌, ◌++◌, length, sum_by, count_by, nat_eq, nat_lt, Bool, ◌&&◌, if◌then◌else◌, Option, Some, None, option_and_then}
 use Rattle.ocm_path.specs.Paths.{Segments, same_path, is_root, parent}
 use Rattle.ocm_types.specs.declared.phases.Which.{Which}
 use Rattle.ocm_types.specs.declared.phases.Which.TheVariants.{FileSize, AllFiles, Nodes, Children}

@@ -9,12 +9,9 @@ use Rattle.ocm_types.specs.declared.rights.Need.TheVariants as needs
 use Rattle.ocm_types.specs.Rights.{all_rights, both}
 use Rattle.ocm_entry.specs.declared.asks.Ask.{Ask}
 use Rattle.ocm_entry.specs.declared.asks.Ask.TheVariants.{Local}
-use Rattle.ocm_entry.specs.declared.asks.Cmd.{Cmd}
 use Rattle.ocm_entry.specs.declared.asks.Cmd.TheVariants as commands
 use Rattle.ocm_entry.specs.declared.asks.Method.{Method}
 use Rattle.ocm_entry.specs.declared.asks.Method.TheVariants.{Get, Head, Put, Delete, Mkcol, List0, List1}
-use Rattle.ocm_entry.specs.declared.replies.Reply.{Reply}
-use Rattle.ocm_entry.specs.declared.replies.Reply.TheVariants.{Number, Done}
 use Rattle.ocm_entry.specs.declared.entries.Entry.{Entry}
 use Rattle.ocm_entry.specs.declared.rows.User.{User}
 use Rattle.ocm_entry.specs.declared.rows.Share.{Share}

@@ -1,6 +1,5 @@
-use Rattle.std.proofs.Common.{◌≡◌, ℕ, ◌+◌, List, [], ◌∷◌, ◌++◌, take, drop, Bool, true, false, Option, Some, None, refl, sym, ap, ◌∙◌, append_assoc, append-nil, add-one, get_or, length, ◌<◌, rules, arith}
+use Rattle.std.proofs.Common.{◌≡◌, ℕ, ◌+◌, List, [], ◌∷◌, ◌++◌, take, drop, false, Option, refl, sym, ap, ◌∙◌, append_assoc, append-nil, add-one, get_or, length, ◌<◌}
 use Rattle.std.proofs.Math.Seq.{drop-cons}
-use Rattle.ocm_base.specs.Outside.{Appends}
 use Rattle.ocm_base.proofs.Pieces.{Appends-twice}
 use Rattle.ocm_core.specs.Plans.{Tables}
 use Rattle.std.proofs.lemmas.List.{take-append-drop}

@@ -1,4 +1,4 @@
-use Rattle.std.proofs.Common.{◌≡◌, ℕ, List, [], ◌∷◌, ◌++◌, Bool, true, false, ◌&&◌, Option, Some, None, refl, sym, ap, ◌∙◌, subst}
+use Rattle.std.proofs.Common.{◌≡◌, ℕ, List, [], ◌∷◌, Bool, true, false, ◌&&◌, Option, Some, None, refl, sym, ap, ◌∙◌, subst}
 use Rattle.std.specs.List.{list_all}
 use Rattle.std.specs.Prelude.{option_map, IsSome, codes, if◌then◌else◌}
 use Rattle.ocm_base.specs.Outside.{Appends}
@@ -18,7 +18,7 @@ use Rattle.ocm_script.specs.Events.{bytes_of, has_short_path}
 use Rattle.ocm_rules.specs.Answers.{is_body_of, is_short}
 use Rattle.ocm_world.specs.Asked.{ask_of, node_of, asks_properly}
 use Rattle.ocm_world.specs.Texts.{reply_text, line_text}
-use Rattle.ocm_world.specs.Transcript.{Server, Answers, Runs, RunsAt, Stops, StopsAt, AppendsFront, IsAt, reply_of, server_after, asked_server, asked_text, ask_to, is_named, next_by, printed_by}
+use Rattle.ocm_world.specs.Transcript.{Server, Answers, Runs, RunsAt, Stops, StopsAt, AppendsFront, IsAt, reply_of, asked_server, asked_text, ask_to, is_named, next_by, printed_by}
 
 -- an ask that wanted memory changes nothing
 pub changes_by-no_memory : (ask : Ask) → changes_by ask NoMemory ≡ false

@@ -1,5 +1,5 @@
 use Rattle.std.proofs.lemmas.Result.{err_from_is_err_and}
-use Rattle.std.proofs.Common.{◌≡◌, true, sym, ◌∙◌, rules}
+use Rattle.std.proofs.Common.{◌≡◌, true}
 use Rattle.ocm_world.specs.Transcript.{is_named}
 use Rattle.ocm_world.proofs.Steps.{RunsAt-written, StopsAt-written}
 use Rattle.ocm_world.proofs.replays.run_asked.Goals as goal

@@ -1,7 +1,6 @@
-use Rattle.std.proofs.Common.{◌≡◌, Some, None, sym, ap, ◌∙◌, rules}
+use Rattle.std.proofs.Common.{◌≡◌, Some, None, sym, ap, ◌∙◌}
 use Rattle.std.specs.Prelude.{option_copied}
 use Rattle.ocm_world.specs.Asked as asked
-use Rattle.ocm_world.specs.Transcript.{IsAt}
 use Rattle.ocm_world.proofs.Steps.{Runs-asked, Runs-node}
 use Rattle.ocm_rules.specs.State.{empty_of}
 use Rattle.ocm_world.proofs.replays.run_event.Goals as goal

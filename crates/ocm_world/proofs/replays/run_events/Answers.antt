@@ -1,9 +1,6 @@
-use Rattle.std.proofs.Common.{◌≡◌, arith, rules, drop, ◌∷◌, ◌+◌}
-use Rattle.std.proofs.Math.Seq.{drop-cons}
+use Rattle.std.proofs.Common.{arith, rules}
 use Rattle.std.proofs.lemmas.List.{drop_all}
-use Rattle.std.proofs.lemmas.Grind.{common_steps}
 use Rattle.std.proofs.lemmas.Result.{err_from_is_err_and}
-use Rattle.ocm_world.specs.Transcript.{GoesOn}
 use Rattle.ocm_world.proofs.Runs.{GoesOn-more, WritesPart-from_stop, Writes-from_end, GoesOn-at}
 use Rattle.ocm_world.proofs.replays.run_events.Goals as goal
 

@@ -1,4 +1,4 @@
-use Rattle.std.proofs.Common.{◌≡◌, ℕ, ◌+◌, ◌≤◌, drop}
+use Rattle.std.proofs.Common.{◌≡◌, ◌+◌, ◌≤◌, drop}
 use Rattle.ocm_world.specs.Transcript.{GoesOn}
 use Rattle.ocm_world.proofs.replays.run_events.Given as goal
 

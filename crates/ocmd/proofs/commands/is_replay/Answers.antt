@@ -1,4 +1,4 @@
-use Rattle.std.proofs.Common.{◌≡◌, ◌∷◌, [], ap, sym, ◌∙◌, arith, rules, List, ℕ}
+use Rattle.std.proofs.Common.{◌∷◌, [], ap, sym, ◌∙◌, arith}
 use Rattle.std.specs.String.{string_bytes}
 use Rattle.ocmd.proofs.SingleWord.{map-single}
 use Rattle.ocmd.proofs.commands.is_replay.Goals as goal
