@@ -1,10 +1,19 @@
-use Rattle.std.proofs.Common.{◌≡◌, ℕ, ◌+◌, List, [], ◌∷◌, ◌++◌, take, drop, false, Option, refl, sym, ap, ◌∙◌, append_assoc, append-nil, add-one, get_or, length, ◌<◌}
+use Rattle.std.proofs.Common.{◌≡◌, ℕ, ◌+◌, List, [], ◌∷◌, ◌++◌, take, drop, false, Option, None, refl, sym, ap, ◌∙◌, append_assoc, append-nil, add-one, get_or, length, ◌<◌}
 use Rattle.std.proofs.Math.Seq.{drop-cons}
+use Rattle.ocm_base.specs.Outside.{Appends}
 use Rattle.ocm_base.proofs.Pieces.{Appends-twice}
 use Rattle.ocm_core.specs.Plans.{Tables}
 use Rattle.std.proofs.lemmas.List.{take-append-drop}
 use Rattle.ocm_script.specs.declared.events.Event.{Event}
-use Rattle.ocm_world.specs.Transcript.{Server, Transcript, GoesOn, Runs, Stops, IsAt, WritesPart, Writes, next, printed}
+use Rattle.ocm_world.specs.Transcript.{Server, Transcript, Runs, Stops, IsAt, WritesPart, Writes, next, printed}
+
+-- so far, whatever the rest prints, what was written and that is a transcript of the whole
+pub record GoesOn (all : List Event) (tables : Option Tables) (number : ℕ) (rest : List Event) (old new : Option (List ℕ)) : Type 0 where
+  pub world : Option Server
+  pub text : List ℕ
+  pub stands : IsAt tables world
+  pub appends : Appends old new text
+  pub on : (t : List ℕ) → Transcript world number rest t → Transcript None 1 all (text ++ t)
 
 -- events have a transcript
 pub some_transcript : (w : Option Server) (n : ℕ) (es : List Event) → (t : List ℕ) × Transcript w n es t

@@ -115,11 +115,3 @@ Runs world tables number e old new = (wanting : Bool) × Appends old new (printe
 -- a line was not run whole: a front of its text was added
 abbrev pub Stops : Option Server → ℕ → Event → Option (List ℕ) → Option (List ℕ) → Type 0
 Stops world number e old new = (wanting : Bool) × AppendsFront old new (printed wanting world number e)
-
--- so far, whatever the rest prints, what was written and that is a transcript of the whole
-pub record GoesOn (all : List Event) (tables : Option Tables) (number : ℕ) (rest : List Event) (old new : Option (List ℕ)) : Type 0 where
-  pub world : Option Server
-  pub text : List ℕ
-  pub stands : IsAt tables world
-  pub appends : Appends old new text
-  pub on : (t : List ℕ) → Transcript world number rest t → Transcript None 1 all (text ++ t)

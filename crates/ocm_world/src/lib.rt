@@ -5,4 +5,5 @@ mod asked;
 mod replays;
 mod texts;
 
+pub use ocm_script::{Body, Event, ScriptFault, read_script};
 pub use replays::{WorldFault, replay};

@@ -37,12 +37,12 @@ Names bytes old new = (length bytes ≤ most_bytes) × (number : ℕ) × (script
 abbrev pub IsLong : List ℕ → Type 0
 IsLong bytes = (most_bytes < length bytes) ⊎ (script_of bytes ≡ Err ends.TooMany)
 
--- nothing was added, or a front of a transcript of the script, or a front of the line that names its first bad line
+-- nothing was added, or the bytes are no longer than a script may be, and a front of its transcript was added, or a front of the line that names its first bad line
 abbrev pub Begins : List ℕ → Option (List ℕ) → Option (List ℕ) → Type 0
 Begins bytes old new =
     (new ≡ old)
-    ⊎ (((events : List Event) × (script_of bytes ≡ Ok events) × WritesPart events old new)
-    ⊎ ((number : ℕ) × (script_of bytes ≡ Err (ends.Line number)) × AppendsFront old new (bad_line number)))
+    ⊎ (((length bytes ≤ most_bytes) × (events : List Event) × (script_of bytes ≡ Ok events) × WritesPart events old new)
+    ⊎ ((length bytes ≤ most_bytes) × (number : ℕ) × (script_of bytes ≡ Err (ends.Line number)) × AppendsFront old new (bad_line number)))
 
 -- the status of each end
 abbrev pub status_of : Result (Unit {0}) Fault → ℕ

@@ -45,8 +45,10 @@ pub fn command<S: Source, K: Sink>(
     ensures unwritten_fault { result ≡ 3 → K.taken sink.new ≡ K.taken sink.old }
     ensures unwritten_length { result ≡ 9 → K.taken sink.new ≡ K.taken sink.old }
     ensures part_of_memory { result ≡ 5 → IfSome (S.left source.old) (λ bytes. Begins bytes (K.taken sink.old) (K.taken sink.new)) }
-    ensures part_of_fault { result ≡ 4 → AppendsFront (K.taken sink.old) (K.taken sink.new) usage_line
-        ⊎ IfSome (S.left source.old) (λ bytes. Begins bytes (K.taken sink.old) (K.taken sink.new)) }
+    ensures part_of_fault { result ≡ 4 → map (λ word. string_bytes word) words.now ≡ replay_words
+        → IfSome (S.left source.old) (λ bytes. Begins bytes (K.taken sink.old) (K.taken sink.new)) }
+    ensures part_of_usage { result ≡ 4 → map (λ word. string_bytes word) words.now ≢ replay_words
+        → AppendsFront (K.taken sink.old) (K.taken sink.new) usage_line }
 
     // without a fault the script decides the status, or there was no memory
     ensures complete { (bytes : List ℕ) → map (λ word. string_bytes word) words.now ≡ replay_words → S.left source.old ≡ Some bytes
@@ -54,12 +56,22 @@ pub fn command<S: Source, K: Sink>(
         → (result ≡ script_status bytes) ⊎ (result ≡ 5) }
 {
     if !is_replay(words) {
-        return match write_all(sink, USAGE) {
-            Ok(()) => 1,
-            Err(Failed) => 4,
-        };
+        return usage(sink);
     }
     status_of(replay_script(alloc, source, sink))
+}
+
+/// Tells the commands, and answers the status for words that are none of them.
+pub fn usage<K: Sink>(sink: &mut K) -> u8
+    ensures one { (result ≡ 1) ⊎ (result ≡ 4) }
+    ensures written { result ≡ 1 → Appends (K.taken sink.old) (K.taken sink.new) usage_line }
+    ensures part { result ≡ 4 → AppendsFront (K.taken sink.old) (K.taken sink.new) usage_line }
+    ensures fault { result ≡ 4 → Rose (K.faults sink.old) (K.faults sink.new) }
+{
+    match write_all(sink, USAGE) {
+        Ok(()) => 1,
+        Err(Failed) => 4,
+    }
 }
 
 /// The line that tells the commands.

@@ -4,19 +4,34 @@
 mod commands;
 mod faults;
 mod scripts;
+#[cfg(test)]
+mod tests;
 
-use crate::commands::command;
+use crate::commands::{command, usage};
 use ocm_base::{StdSink, StdSource};
+use std::io::ErrorKind;
 use std::process::ExitCode;
 use std::{env, io};
 
-fn main(rt: HostRuntime) -> io::Result<ExitCode> {
-    let mut words = Vec::new(rt.alloc());
-    for word in env::args(&rt)?.skip(1) {
-        words.push(word)?;
-    }
+/// The status where there was no memory for the words.
+const NO_MEMORY: u8 = 5;
+
+fn main(rt: HostRuntime) -> ExitCode {
     let mut source = StdSource::new(rt.reader());
     let mut sink = StdSink::new(io::writer(&rt));
-    let status = command(rt.alloc(), &words, &mut source, &mut sink);
-    Ok(ExitCode::from(status))
+    let status = match words_of(&rt) {
+        Ok(words) => command(rt.alloc(), &words, &mut source, &mut sink),
+        Err(e) if e.kind() == ErrorKind::OutOfMemory => NO_MEMORY,
+        Err(_) => usage(&mut sink),
+    };
+    ExitCode::from(status)
+}
+
+/// The words behind the program's name. A word that is no text is an error.
+fn words_of(rt: &HostRuntime) -> io::Result<Vec<String>> {
+    let mut words = Vec::new(rt.alloc());
+    for word in env::args(rt)?.skip(1) {
+        words.push(word)?;
+    }
+    Ok(words)
 }

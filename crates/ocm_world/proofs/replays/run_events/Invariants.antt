@@ -1,5 +1,5 @@
 use Rattle.std.proofs.Common.{◌≡◌, ◌+◌, ◌≤◌, drop}
-use Rattle.ocm_world.specs.Transcript.{GoesOn}
+use Rattle.ocm_world.proofs.Runs.{GoesOn}
 use Rattle.ocm_world.proofs.replays.run_events.Given as goal
 
 -- what is printed so far leads on
