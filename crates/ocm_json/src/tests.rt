@@ -1,0 +1,61 @@
+use crate::{FieldFault, Fields, JsonFault, JsonFieldFault};
+use std::test::Fail;
+
+#[test]
+fn opens_objects_alone(rt: HostRuntime) -> Result<(), Fail> {
+    let alloc = rt.alloc();
+    for (bytes, fault) in [
+        (b"".as_slice(), Some(JsonFault::NotJson)),
+        (b"{\"a\":1,}", Some(JsonFault::NotJson)),
+        (b"{\"a\":\"\xff\"}", Some(JsonFault::NotJson)),
+        (b"[]", Some(JsonFault::NotObject)),
+        (b" {} ", None),
+    ] {
+        assert_eq!(rt; Fields::of(alloc, bytes).err(), fault);
+    }
+    Ok(())
+}
+
+#[test]
+fn reads_each_kind(rt: HostRuntime) -> Result<(), Fail> {
+    let alloc = rt.alloc();
+    let bytes = b"{\"a\":\"x\",\"a\":\"\\u00e9\",\"n\":7,\"f\":1.0,\"z\":null,\"t\":true,
+        \"o\":{\"p\":{\"q\":2}},\"l\":[\"b\",\"c\"],\"m\":[{\"k\":3}],\"w\":[\"b\",null]}";
+    let fields = Fields::of(alloc, bytes)?;
+    assert_eq!(rt; fields.text("a", 1, 2)?, Some("\u{e9}"));
+    assert_eq!(rt; fields.text("a", 1, 1).err(), Some(FieldFault::Length));
+    assert_eq!(rt; fields.text("n", 1, 2).err(), Some(FieldFault::Kind));
+    assert_eq!(rt; fields.text("z", 1, 2)?, None);
+    assert_eq!(rt; fields.flag("t")?, Some(true));
+    assert_eq!(rt; fields.number("n")?, Some(7));
+    assert_eq!(rt; fields.number("f").err(), Some(FieldFault::Range));
+    assert_eq!(rt; fields.texts(alloc, "l")?.map(|texts| texts.len()), Some(2));
+    assert_eq!(rt; fields.texts(alloc, "w").err(), Some(JsonFieldFault::Kind));
+    assert_eq!(rt;
+        fields.objects(alloc, "m")?.map(|objects| objects.len()),
+        Some(1)
+    );
+    assert_eq!(rt;
+        fields.objects(alloc, "l").err(),
+        Some(JsonFieldFault::Kind)
+    );
+    Ok(())
+}
+
+#[test]
+fn looks_into_objects(rt: HostRuntime) -> Result<(), Fail> {
+    let alloc = rt.alloc();
+    let fields = Fields::of(alloc, b"{\"o\":{\"p\":{\"q\":2}}}")?;
+    let Some(outer) = fields.borrowed().object("o")? else {
+        return Err(Fail::new("no outer object"));
+    };
+    let Some(inner) = outer.object("p")? else {
+        return Err(Fail::new("no inner object"));
+    };
+    let Some(copy) = fields.object("o")? else {
+        return Err(Fail::new("no copy"));
+    };
+    assert_eq!(rt; inner.number("q")?, Some(2));
+    assert_eq!(rt; copy.number("p").err(), Some(FieldFault::Kind));
+    Ok(())
+}
