@@ -18,12 +18,13 @@ use Rattle.ocm_types.specs.declared.phases.Which.TheVariants.{Shares}
 use Rattle.ocm_entry.specs.declared.rows.User.{User}
 use Rattle.ocm_entry.specs.declared.rows.Share.{Share}
 use Rattle.ocm_entry.specs.declared.rows.Standing.{Standing}
-use Rattle.ocm_rules.specs.Numbers.{same_text, added, number_from, number_of, at_number}
-use Rattle.ocm_rules.specs.Users.{user_of_key, has_key}
-use Rattle.ocm_rules.specs.Shares.{is_used, own_share, share_by}
-use Rattle.ocm_rules.specs.History.{changes_by}
-use Rattle.ocm_rules.specs.Answers.{is_short, unshare_reply, share_reply}
-use Rattle.ocm_rules.specs.State.{State, reply_in, local_reply_in, after, step, standing_among, is_live_in}
+use Rattle.ocm_first_rules.specs.Numbers.{same_text, added, number_from, number_of, at_number}
+use Rattle.ocm_first_rules.specs.Users.{user_of_key, has_key}
+use Rattle.ocm_first_rules.specs.Shares.{is_used, own_share, share_by}
+use Rattle.ocm_first_rules.specs.History.{changes_by}
+use Rattle.ocm_entry.specs.Proper.{is_short}
+use Rattle.ocm_first_rules.specs.Answers.{unshare_reply, share_reply}
+use Rattle.ocm_first_rules.specs.State.{State, reply_in, local_reply_in, after, step, standing_among, is_live_in}
 use Rattle.ocm_core.specs.Plans.{Plan, Plans, Fits, FitsShare, changed, is_kept}
 use Rattle.ocm_core.specs.Commands.{share_refusal, share_reply_in, share_change, share_row, close_change}
 use Rattle.ocm_core.specs.declared.changes.Change.{Change}

@@ -18,11 +18,11 @@ use Rattle.ocm_entry.specs.declared.rows.Node.{Node}
 use Rattle.ocm_entry.specs.declared.rows.Place.{Place}
 use Rattle.ocm_entry.specs.declared.rows.Standing.{Standing}
 use Rattle.ocm_entry.specs.declared.rows.Standing.TheVariants.{Collection, File}
-use Rattle.ocm_rules.specs.Shares.{grant_of, holder_among, root_of, Holder, Nobody, Account, Guest, need_of}
-use Rattle.ocm_rules.specs.Files.{below, file_at, placed_by, parent_of, limit_of, nodes_after}
-use Rattle.ocm_rules.specs.History.{changes_by}
-use Rattle.ocm_rules.specs.Answers.{get_reply, put_done, put_reply, is_collection, method_reply, dav_reply}
-use Rattle.ocm_rules.specs.State.{State, reply_in, after, node_at, standing_among, grant_in, is_live_in, effective_in}
+use Rattle.ocm_first_rules.specs.Shares.{grant_of, holder_among, root_of, Holder, Nobody, Account, Guest, need_of}
+use Rattle.ocm_first_rules.specs.Files.{below, file_at, placed_by, parent_of, limit_of, nodes_after}
+use Rattle.ocm_first_rules.specs.History.{changes_by}
+use Rattle.ocm_first_rules.specs.Answers.{get_reply, put_done, put_reply, is_collection, method_reply, dav_reply}
+use Rattle.ocm_first_rules.specs.State.{State, reply_in, after, node_at, standing_among, grant_in, is_live_in, effective_in}
 use Rattle.ocm_core.specs.Plans.{Plan, Plans, Fits, changed, is_kept}
 use Rattle.ocm_core.specs.Requests.{put_refusal, put_change, method_change}
 use Rattle.ocm_core.specs.declared.changes.Change.TheVariants as changes

@@ -9,10 +9,10 @@ use Rattle.ocm_entry.specs.declared.replies.Reply.{Reply}
 use Rattle.ocm_entry.specs.declared.replies.Reply.TheVariants as replies
 use Rattle.ocm_entry.specs.declared.rows.User.{User}
 use Rattle.ocm_entry.specs.declared.rows.Share.{Share}
-use Rattle.ocm_rules.specs.Numbers.{same_text}
-use Rattle.ocm_rules.specs.Shares.{is_used}
-use Rattle.ocm_rules.specs.Answers.{share_reply}
-use Rattle.ocm_rules.specs.State.{State, standing_among}
+use Rattle.ocm_first_rules.specs.Numbers.{same_text}
+use Rattle.ocm_first_rules.specs.Shares.{is_used}
+use Rattle.ocm_first_rules.specs.Answers.{share_reply}
+use Rattle.ocm_first_rules.specs.State.{State, standing_among}
 use Rattle.ocm_core.specs.declared.changes.Change.{Change}
 use Rattle.ocm_core.specs.declared.changes.Change.TheVariants as changes
 

@@ -3,12 +3,12 @@ use Rattle.ocm_entry.specs.declared.asks.Ask.{Ask}
 use Rattle.ocm_entry.specs.declared.replies.Reply.{Reply}
 use Rattle.ocm_entry.specs.declared.rows.User.{User}
 use Rattle.ocm_entry.specs.declared.rows.Share.{Share}
-use Rattle.ocm_rules.specs.Users.{is_taken}
-use Rattle.ocm_rules.specs.Shares.{is_used}
-use Rattle.ocm_rules.specs.Files.{with_node, limit_of}
-use Rattle.ocm_rules.specs.Answers.{is_short}
-use Rattle.ocm_rules.specs.History.{changes_by}
-use Rattle.ocm_rules.specs.State.{State, reply_in, after}
+use Rattle.ocm_first_rules.specs.Users.{is_taken}
+use Rattle.ocm_first_rules.specs.Shares.{is_used}
+use Rattle.ocm_first_rules.specs.Files.{with_node, limit_of}
+use Rattle.ocm_entry.specs.Proper.{is_short}
+use Rattle.ocm_first_rules.specs.History.{changes_by}
+use Rattle.ocm_first_rules.specs.State.{State, reply_in, after}
 use Rattle.ocm_core.specs.declared.changes.Change.{Change}
 use Rattle.ocm_core.specs.declared.changes.Change.TheVariants as changes
 

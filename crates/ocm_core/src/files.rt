@@ -1,10 +1,11 @@
 ghost use Rattle.std.specs.Prelude.{◌≡◌, IfOk, IfSome, Some, IsTrue, option_copied};
 ghost use Rattle.ocm_entry.specs.declared.asks.Ask.TheVariants as asks;
 ghost use Rattle.ocm_entry.specs.declared.rows.Standing.TheVariants as standings;
-ghost use Rattle.ocm_rules.specs.Shares as shares;
-ghost use Rattle.ocm_rules.specs.Files.{parent_of, below, limit_of};
-ghost use Rattle.ocm_rules.specs.Answers.{is_proper, is_short, is_collection, get_reply, put_reply, put_done, method_reply};
-ghost use Rattle.ocm_rules.specs.State.{standing_among, grant_in};
+ghost use Rattle.ocm_first_rules.specs.Shares as shares;
+ghost use Rattle.ocm_first_rules.specs.Files.{parent_of, below, limit_of};
+ghost use Rattle.ocm_entry.specs.Proper.{is_proper, is_short};
+ghost use Rattle.ocm_first_rules.specs.Answers.{is_collection, get_reply, put_reply, put_done, method_reply};
+ghost use Rattle.ocm_first_rules.specs.State.{standing_among, grant_in};
 ghost use Rattle.ocm_types.specs.Rights.{has};
 ghost use Rattle.ocm_core.specs.Plans.{Plans, Fits};
 ghost use Rattle.ocm_core.specs.Requests.{put_refusal, put_change, method_change};

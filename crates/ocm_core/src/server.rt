@@ -1,9 +1,10 @@
 ghost use Rattle.std.specs.Prelude.{◌≡◌, ◌<◌, ◌∷◌, IfOk, OnOk, OnErr, List, IsTrue};
 ghost use Rattle.ocm_entry.specs.declared.asks.Ask.{Ask};
 ghost use Rattle.ocm_entry.specs.declared.entries.Entry.{Entry};
-ghost use Rattle.ocm_rules.specs.Answers.{answer, is_proper};
-ghost use Rattle.ocm_rules.specs.History.{changes, kept};
-ghost use Rattle.ocm_rules.specs.State.{Stands, empty_of};
+ghost use Rattle.ocm_entry.specs.Proper.{is_proper};
+ghost use Rattle.ocm_first_rules.specs.Answers.{answer};
+ghost use Rattle.ocm_first_rules.specs.History.{changes, kept};
+ghost use Rattle.ocm_first_rules.specs.State.{Stands, empty_of};
 ghost use Rattle.ocm_core.specs.Plans.{Plans, Fits, changed, is_kept};
 
 use crate::changes::{Change, Planned};

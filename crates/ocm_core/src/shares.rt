@@ -1,10 +1,11 @@
 ghost use Rattle.std.specs.Prelude.{◌≡◌, ◌+◌, None, IfOk, IfSome, IsSome, IsTrue, is_some, length, nat_lt};
 ghost use Rattle.ocm_entry.specs.declared.asks.Ask.TheVariants as asks;
-ghost use Rattle.ocm_rules.specs.Numbers.{same_text, at_number};
-ghost use Rattle.ocm_rules.specs.Users.{user_of_key};
-ghost use Rattle.ocm_rules.specs.Shares.{is_used};
-ghost use Rattle.ocm_rules.specs.Answers.{is_proper, is_short, unshare_reply};
-ghost use Rattle.ocm_rules.specs.State.{is_live_in, standing_among};
+ghost use Rattle.ocm_first_rules.specs.Numbers.{same_text, at_number};
+ghost use Rattle.ocm_first_rules.specs.Users.{user_of_key};
+ghost use Rattle.ocm_first_rules.specs.Shares.{is_used};
+ghost use Rattle.ocm_entry.specs.Proper.{is_proper, is_short};
+ghost use Rattle.ocm_first_rules.specs.Answers.{unshare_reply};
+ghost use Rattle.ocm_first_rules.specs.State.{is_live_in, standing_among};
 ghost use Rattle.ocm_core.specs.Plans.{Plans, Fits};
 ghost use Rattle.ocm_core.specs.Commands.{share_reply_in, share_refusal, share_change, share_row, close_change};
 

@@ -1,1 +1,5 @@
+pub mod PathTexts
+pub mod Proper
+pub mod Reading
 pub mod Refusals
+pub mod Spells

@@ -3,8 +3,8 @@ use Rattle.std.specs.Prelude.{option_map}
 use Rattle.ocm_entry.specs.declared.rows.Place.{Place}
 use Rattle.ocm_entry.specs.declared.rows.Standing.{Standing}
 use Rattle.ocm_entry.specs.declared.rows.Node.{Node}
-use Rattle.ocm_rules.specs.Files.{same_place, with_node, child_count}
-use Rattle.ocm_rules.specs.State.{node_at}
+use Rattle.ocm_first_rules.specs.Files.{same_place, with_node, child_count}
+use Rattle.ocm_first_rules.specs.State.{node_at}
 use Rattle.ocm_files.specs.Tables.{index_of}
 use Rattle.ocm_files.proofs.NodeLists.{child_count-more}
 use Rattle.ocm_files.proofs.SamePlace.{same_place-equal, same_place-Decides}

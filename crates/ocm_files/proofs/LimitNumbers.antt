@@ -3,8 +3,8 @@ use Rattle.std.specs.Prelude.{nat_lt}
 use Rattle.std.proofs.lemmas.Bool.Decides.{nat_tests}
 use Rattle.ocm_types.specs.declared.phases.Which.TheVariants.{FileSize}
 use Rattle.ocm_entry.specs.declared.rows.Node.{Node}
-use Rattle.ocm_rules.specs.Files.{parent_of, with_node, size_of, total_size, child_count, limit_of}
-use Rattle.ocm_rules.specs.State.{node_at}
+use Rattle.ocm_first_rules.specs.Files.{parent_of, with_node, size_of, total_size, child_count, limit_of}
+use Rattle.ocm_first_rules.specs.State.{node_at}
 use Rattle.ocm_files.specs.Tables.{size_at, growth, first_passed}
 use Rattle.ocm_files.proofs.NodeLists.{total_size-with_node, size_at-le-total_size, length-with_node, child_count-with_node}
 

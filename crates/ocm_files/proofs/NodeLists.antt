@@ -4,8 +4,8 @@ use Rattle.std.proofs.lemmas.List.Sums.{sum_by-cons, count_by-le-length}
 use Rattle.ocm_entry.specs.declared.rows.Place.{Place}
 use Rattle.ocm_entry.specs.declared.rows.Standing.{Standing}
 use Rattle.ocm_entry.specs.declared.rows.Node.{Node}
-use Rattle.ocm_rules.specs.Files.{same_place, parent_of, with_node, size_of, total_size, child_count}
-use Rattle.ocm_rules.specs.State.{node_at}
+use Rattle.ocm_first_rules.specs.Files.{same_place, parent_of, with_node, size_of, total_size, child_count}
+use Rattle.ocm_first_rules.specs.State.{node_at}
 use Rattle.ocm_files.specs.Tables.{size_at, growth, index_of}
 use Rattle.ocm_files.proofs.SamePlace.{same_place-equal, same_place-refl}
 

@@ -5,7 +5,7 @@ use Rattle.std.specs.Cmp.Lexicographic.{pointwise_decides, bytes_decides}
 use Rattle.std.proofs.lemmas.Bool.Decides.{Decides-eqb, Decides-and, Decides-like}
 use Rattle.ocm_path.specs.Paths.{Segments, same_path}
 use Rattle.ocm_entry.specs.declared.rows.Place.{Place}
-use Rattle.ocm_rules.specs.Files.{same_place}
+use Rattle.ocm_first_rules.specs.Files.{same_place}
 
 -- paths compare equal exactly where they are the same
 path-Decides : (a b : Segments) → Decides (same_path a b) (a ≡ b)

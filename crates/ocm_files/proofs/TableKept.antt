@@ -6,8 +6,8 @@ use Rattle.std.specs.declared.hash.BuildHasherDefault.{BuildHasherDefault}
 use Rattle.ocm_entry.specs.declared.rows.Place.{Place}
 use Rattle.ocm_entry.specs.declared.rows.Standing.{Standing}
 use Rattle.ocm_entry.specs.declared.rows.Node.{Node}
-use Rattle.ocm_rules.specs.Files.{same_place, parent_of, with_node, size_of, total_size, child_count, limit_of}
-use Rattle.ocm_rules.specs.State.{node_at}
+use Rattle.ocm_first_rules.specs.Files.{same_place, parent_of, with_node, size_of, total_size, child_count, limit_of}
+use Rattle.ocm_first_rules.specs.State.{node_at}
 use Rattle.ocm_files.specs.Tables.{size_at, counted, index_of, IsTable}
 use Rattle.ocm_files.proofs.SamePlace.{same_place-equal}
 use Rattle.ocm_files.proofs.NodeLists.{total_size-with_node, size_at-le-total_size, child_count-more}

@@ -9,7 +9,7 @@ use Rattle.ocm_entry.specs.declared.rows.Place.{Place}
 use Rattle.ocm_entry.specs.declared.rows.Standing.{Standing}
 use Rattle.ocm_entry.specs.declared.rows.Standing.TheVariants.{Collection}
 use Rattle.ocm_entry.specs.declared.rows.Node.{Node}
-use Rattle.ocm_rules.specs.Files.{same_place, size_of, total_size, child_count}
+use Rattle.ocm_first_rules.specs.Files.{same_place, size_of, total_size, child_count}
 
 -- what callers see of a table of files: what stands, and how many more nodes it takes without memory
 pub record FileLists : Type 0 where

@@ -3,8 +3,8 @@
 ghost use Rattle.std.specs.Prelude.{◌≡◌, List, Some, if◌then◌else◌};
 ghost use Rattle.ocm_entry.specs.declared.rows.Node.{Node};
 ghost use Rattle.ocm_entry.specs.declared.rows.Place.{Place};
-ghost use Rattle.ocm_rules.specs.Files.{same_place, with_node};
-ghost use Rattle.ocm_rules.specs.State.{node_at};
+ghost use Rattle.ocm_first_rules.specs.Files.{same_place, with_node};
+ghost use Rattle.ocm_first_rules.specs.State.{node_at};
 
 /// Once a node stands, what stands at its place is its own, and elsewhere what stood there before.
 pub fn node_stands()

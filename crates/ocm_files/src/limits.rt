@@ -1,5 +1,5 @@
 ghost use Rattle.std.specs.Prelude.{◌≡◌, option_copied};
-ghost use Rattle.ocm_rules.specs.Files.{size_of};
+ghost use Rattle.ocm_first_rules.specs.Files.{size_of};
 ghost use Rattle.ocm_files.specs.Tables.{size_at, growth, first_passed};
 
 use ocm_entry::Standing;

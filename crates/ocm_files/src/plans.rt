@@ -1,5 +1,5 @@
 ghost use Rattle.std.specs.Prelude.{◌≡◌, IfOk};
-ghost use Rattle.ocm_rules.specs.Files.{parent_of};
+ghost use Rattle.ocm_first_rules.specs.Files.{parent_of};
 
 use ocm_base::NoMemory;
 use ocm_entry::{Node, Place, Standing};
@@ -17,7 +17,7 @@ pub struct PlannedNode {
 impl Model for PlannedNode {
     ghost use Rattle.std.specs.Prelude.{◌≡◌};
     ghost use Rattle.ocm_entry.specs.declared.rows.Node.{Node};
-    ghost use Rattle.ocm_rules.specs.Files.{parent_of};
+    ghost use Rattle.ocm_first_rules.specs.Files.{parent_of};
 
     ghost Value = { Node };
 

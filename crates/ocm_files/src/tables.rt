@@ -1,8 +1,8 @@
 ghost use Rattle.std.specs.Prelude.{◌≡◌, ◌<◌, ◌≤◌, ◌+◌, [], length, Some, None, IfSome, OnOk, option_copied};
 ghost use Rattle.ocm_entry.specs.declared.rows.Standing.TheVariants.{File};
-ghost use Rattle.ocm_rules.specs.Files.{parent_of, total_size, child_count, with_node, limit_of};
-ghost use Rattle.ocm_rules.specs.State.{node_at, standing_among};
-ghost use Rattle.ocm_rules.specs.Answers.{is_collection};
+ghost use Rattle.ocm_first_rules.specs.Files.{parent_of, total_size, child_count, with_node, limit_of};
+ghost use Rattle.ocm_first_rules.specs.State.{node_at, standing_among};
+ghost use Rattle.ocm_first_rules.specs.Answers.{is_collection};
 ghost use Rattle.ocm_files.specs.Tables.{index_of, counted};
 
 use crate::limits::{MOST_FILE_BYTES, first_passed, growth, size_at, size_of};

@@ -6,9 +6,9 @@ use Rattle.std.proofs.lemmas.List.Folds.{list_any-append}
 use Rattle.std.proofs.lemmas.Slice.Eq.{bytes_eq-Decides}
 use Rattle.ocm_entry.specs.declared.rows.User.{User}
 use Rattle.ocm_entry.specs.declared.rows.Share.{Share}
-use Rattle.ocm_rules.specs.Numbers.{same_text, number_from, number_of, at_number}
-use Rattle.ocm_rules.specs.Users.{user_of_key}
-use Rattle.ocm_rules.specs.Shares.{share_of_secret, is_used}
+use Rattle.ocm_first_rules.specs.Numbers.{same_text, number_from, number_of, at_number}
+use Rattle.ocm_first_rules.specs.Users.{user_of_key}
+use Rattle.ocm_first_rules.specs.Shares.{share_of_secret, is_used}
 use Rattle.ocm_holders.specs.Lists.{is_closed_among}
 
 -- what the first option holds, or else what the second does

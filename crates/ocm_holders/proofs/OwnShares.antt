@@ -6,9 +6,9 @@ use Rattle.std.proofs.lemmas.Grind.{reverse_onto}
 use Rattle.ocm_types.specs.declared.rights.Rights.{Rights}
 use Rattle.ocm_types.specs.Rights.{both}
 use Rattle.ocm_entry.specs.declared.rows.Share.{Share}
-use Rattle.ocm_rules.specs.Numbers.{at_number}
-use Rattle.ocm_rules.specs.Shares.{live_among, effective_among, guest_of}
-use Rattle.ocm_rules.specs.Answers.{is_short}
+use Rattle.ocm_first_rules.specs.Numbers.{at_number}
+use Rattle.ocm_first_rules.specs.Shares.{live_among, effective_among, guest_of}
+use Rattle.ocm_entry.specs.Proper.{is_short}
 use Rattle.ocm_holders.specs.Lists.{is_closed_among, is_live_among, grant_among, IsOwn, AreOwn}
 use Rattle.ocm_holders.proofs.Numbering.{at_number-push}
 

@@ -7,9 +7,9 @@ use Rattle.std.specs.declared.hash.FoldHasher.{FoldHasher}
 use Rattle.std.specs.declared.hash.BuildHasherDefault.{BuildHasherDefault}
 use Rattle.ocm_entry.specs.declared.rows.User.{User}
 use Rattle.ocm_entry.specs.declared.rows.Share.{Share}
-use Rattle.ocm_rules.specs.Numbers.{same_text}
-use Rattle.ocm_rules.specs.Users.{user_of_key, is_taken}
-use Rattle.ocm_rules.specs.Shares.{share_of_secret}
+use Rattle.ocm_first_rules.specs.Numbers.{same_text}
+use Rattle.ocm_first_rules.specs.Users.{user_of_key, is_taken}
+use Rattle.ocm_first_rules.specs.Shares.{share_of_secret}
 use Rattle.ocm_holders.specs.Lists.{is_closed_among, AreOwn}
 
 -- an index from texts to numbers

@@ -3,8 +3,8 @@ use Rattle.std.specs.List.{list_any}
 use Rattle.ocm_entry.specs.declared.rows.User.{User}
 use Rattle.ocm_entry.specs.declared.rows.Share.{Share}
 use Rattle.ocm_entry.specs.declared.rows.Grant.{Grant}
-use Rattle.ocm_rules.specs.Shares.{live_among, effective_among, holder_among, Holder, grant_of}
-use Rattle.ocm_rules.specs.Answers.{is_short}
+use Rattle.ocm_first_rules.specs.Shares.{live_among, effective_among, holder_among, Holder, grant_of}
+use Rattle.ocm_entry.specs.Proper.{is_short}
 
 -- the users and the shares of a server, each numbered from 1, the numbers of the closed shares, and how many more of each can be added without memory
 pub record HolderLists : Type 0 where

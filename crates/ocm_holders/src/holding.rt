@@ -1,8 +1,8 @@
 ghost use Rattle.std.specs.Prelude.{◌≡◌, ◌<◌, ◌++◌, ◌∷◌, [], length, None, false, IfOk, IfSome, OnOk, IsTrue, option_copied};
-ghost use Rattle.ocm_rules.specs.Numbers.{at_number};
-ghost use Rattle.ocm_rules.specs.Users.{user_of_key, is_taken};
-ghost use Rattle.ocm_rules.specs.Shares.{is_used};
-ghost use Rattle.ocm_rules.specs.Answers.{is_short};
+ghost use Rattle.ocm_first_rules.specs.Numbers.{at_number};
+ghost use Rattle.ocm_first_rules.specs.Users.{user_of_key, is_taken};
+ghost use Rattle.ocm_first_rules.specs.Shares.{is_used};
+ghost use Rattle.ocm_entry.specs.Proper.{is_short};
 ghost use Rattle.ocm_types.specs.Rights.{all_rights};
 ghost use Rattle.ocm_holders.specs.Lists.{is_live_among, granted_among};
 

@@ -1,5 +1,5 @@
 ghost use Rattle.std.specs.Prelude.{◌≡◌, option_copied};
-ghost use Rattle.ocm_rules.specs.Numbers.{at_number};
+ghost use Rattle.ocm_first_rules.specs.Numbers.{at_number};
 
 /// The row of this number, where the first has number 1.
 pub fn row_at<T>(rows: &[T], number: u32) -> Option<&T>

@@ -1,7 +1,7 @@
 ghost use Rattle.std.specs.Prelude.{◌≡◌, ◌<◌, ◌++◌, ◌∷◌, [], length, reverse, None, IfOk, IfSome, OnOk, IsTrue, option_copied};
-ghost use Rattle.ocm_rules.specs.Numbers.{at_number};
-ghost use Rattle.ocm_rules.specs.Shares.{share_of_secret, guest_of, effective_among};
-ghost use Rattle.ocm_rules.specs.Answers.{is_short};
+ghost use Rattle.ocm_first_rules.specs.Numbers.{at_number};
+ghost use Rattle.ocm_first_rules.specs.Shares.{share_of_secret, guest_of, effective_among};
+ghost use Rattle.ocm_entry.specs.Proper.{is_short};
 ghost use Rattle.ocm_holders.specs.Lists.{is_live_among, grant_among, IsOwn};
 
 use crate::plans::PlannedShare;

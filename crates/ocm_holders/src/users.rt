@@ -1,6 +1,6 @@
 ghost use Rattle.std.specs.Prelude.{◌≡◌, ◌<◌, ◌++◌, ◌∷◌, [], length, None, OnOk, option_copied};
-ghost use Rattle.ocm_rules.specs.Numbers.{at_number};
-ghost use Rattle.ocm_rules.specs.Users.{user_of_key, is_taken};
+ghost use Rattle.ocm_first_rules.specs.Numbers.{at_number};
+ghost use Rattle.ocm_first_rules.specs.Users.{user_of_key, is_taken};
 
 use crate::plans::PlannedUser;
 use crate::rows::row_at;

@@ -6,11 +6,11 @@ use Rattle.std.proofs.lemmas.List.{reverse-append}
 use Rattle.std.proofs.lemmas.List.Folds.{list_any-append}
 use Rattle.ocm_entry.specs.declared.rows.User.{User}
 use Rattle.ocm_entry.specs.declared.rows.Share.{Share}
-use Rattle.ocm_rules.specs.Numbers.{same_text, added, at_number}
-use Rattle.ocm_rules.specs.Shares.{is_used}
-use Rattle.ocm_rules.specs.Answers.{is_proper, is_short}
+use Rattle.ocm_first_rules.specs.Numbers.{same_text, added, at_number}
+use Rattle.ocm_first_rules.specs.Shares.{is_used}
+use Rattle.ocm_entry.specs.Proper.{is_proper, is_short}
 use Rattle.ocm_entry.specs.declared.entries.Entry.{Entry}
-use Rattle.ocm_rules.specs.History.{changes, kept}
+use Rattle.ocm_first_rules.specs.History.{changes, kept}
 use Rattle.ocm_plain.specs.Histories.{AreProper, AreShort}
 
 any_of-texts : {X : Type 0} (text : X → List ℕ) (s : List ℕ) (xs : List X) → list_any (λ t. same_text t s) (map text xs) ≡ list_any (λ x. same_text (text x) s) xs

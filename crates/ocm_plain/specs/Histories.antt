@@ -1,7 +1,7 @@
 use Rattle.std.specs.Prelude.{List, [], ◌∷◌, IsTrue, ⊤}
 use Rattle.ocm_entry.specs.declared.entries.Entry.{Entry}
 use Rattle.ocm_entry.specs.declared.rows.Share.{Share}
-use Rattle.ocm_rules.specs.Answers.{is_proper, is_short}
+use Rattle.ocm_entry.specs.Proper.{is_proper, is_short}
 
 -- each ask of the entries is proper
 abbrev pub AreProper : List Entry → Type 0

@@ -2,11 +2,12 @@ ghost use Rattle.std.specs.Prelude.{◌≡◌, ◌+◌, ◌-◌, ◌<◌, ◌≤
 ghost use Rattle.ocm_base.specs.Hex.{hex};
 ghost use Rattle.ocm_entry.specs.declared.asks.Ask.TheVariants as asks;
 ghost use Rattle.ocm_entry.specs.declared.rows.Standing.TheVariants as standings;
-ghost use Rattle.ocm_rules.specs.Numbers.{same_text, at_number};
-ghost use Rattle.ocm_rules.specs.Users.{users, user_of_key, is_taken};
-ghost use Rattle.ocm_rules.specs.Shares.{made, is_used, is_live};
-ghost use Rattle.ocm_rules.specs.Files.{parent_of, at, nodes, limit_of};
-ghost use Rattle.ocm_rules.specs.Answers.{answer, answer_kept, local_reply, dav_reply, method_reply, add_user_reply, share_reply, made_reply, unshare_reply, get_reply, put_reply, put_done, is_collection, is_proper, is_short};
+ghost use Rattle.ocm_first_rules.specs.Numbers.{same_text, at_number};
+ghost use Rattle.ocm_first_rules.specs.Users.{users, user_of_key, is_taken};
+ghost use Rattle.ocm_first_rules.specs.Shares.{made, is_used, is_live};
+ghost use Rattle.ocm_first_rules.specs.Files.{parent_of, at, nodes, limit_of};
+ghost use Rattle.ocm_entry.specs.Proper.{is_proper, is_short};
+ghost use Rattle.ocm_first_rules.specs.Answers.{answer, answer_kept, local_reply, dav_reply, method_reply, add_user_reply, share_reply, made_reply, unshare_reply, get_reply, put_reply, put_done, is_collection};
 ghost use Rattle.ocm_plain.specs.Histories.{AreProper};
 
 use crate::files::{below, limit_of, parent_of, standing_at};

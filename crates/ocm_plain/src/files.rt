@@ -1,8 +1,8 @@
 ghost use Rattle.std.specs.Prelude.{◌≡◌, ◌+◌, ◌-◌, ◌++◌, ◌<◌, ◌≤◌, ◌^◌, min, IfOk, OnOk, IsTrue, length, nat_lt, if◌then◌else◌, Some, None};
-ghost use Rattle.ocm_rules.specs.Files.{same_place, below, parent_of, file_at, placed_by, last_put, at, with_node, nodes, size_of, total_size, child_count, passed_by, limit_of};
-ghost use Rattle.ocm_rules.specs.Answers.{is_proper, is_short};
-ghost use Rattle.ocm_rules.specs.Users.{users};
-ghost use Rattle.ocm_rules.specs.Shares.{made};
+ghost use Rattle.ocm_first_rules.specs.Files.{same_place, below, parent_of, file_at, placed_by, last_put, at, with_node, nodes, size_of, total_size, child_count, passed_by, limit_of};
+ghost use Rattle.ocm_entry.specs.Proper.{is_proper, is_short};
+ghost use Rattle.ocm_first_rules.specs.Users.{users};
+ghost use Rattle.ocm_first_rules.specs.Shares.{made};
 ghost use Rattle.ocm_plain.specs.Histories.{AreProper, AreShort};
 
 use crate::shares::{made_of, root_of};

@@ -1,5 +1,5 @@
 ghost use Rattle.std.specs.Prelude.{◌≡◌, ◌+◌, ◌++◌, ◌≤◌, IfOk, OnOk, length};
-ghost use Rattle.ocm_rules.specs.History.{is_change, writes, changes_by, kept};
+ghost use Rattle.ocm_first_rules.specs.History.{is_change, writes, changes_by, kept};
 ghost use Rattle.ocm_plain.specs.Histories.{AreProper};
 
 use ocm_base::{List, NoMemory};

@@ -1,5 +1,5 @@
 ghost use Rattle.std.specs.Prelude.{◌≡◌, ◌+◌, ◌≤◌, IfOk, length, option_copied};
-ghost use Rattle.ocm_rules.specs.Numbers.{added, at_number};
+ghost use Rattle.ocm_first_rules.specs.Numbers.{added, at_number};
 
 use ocm_base::{List, NoMemory};
 

@@ -2,9 +2,9 @@ ghost use Rattle.std.specs.Prelude.{◌≡◌, ◌+◌, ◌-◌, ◌<◌, ◌≤
 ghost use Rattle.std.specs.List.{list_any};
 ghost use Rattle.ocm_entry.specs.declared.rows.User.{User as UserRow};
 ghost use Rattle.ocm_entry.specs.declared.rows.Share.{Share as ShareRow};
-ghost use Rattle.ocm_rules.specs.Numbers.{same_text, number_from, at_number};
-ghost use Rattle.ocm_rules.specs.Shares.{share_by, own_share, made, has_secret, share_of_secret, is_used, closed_by, closes, is_closed, live_among, effective_among, holder_among, root_of, need_of, grant_of, grant_to};
-ghost use Rattle.ocm_rules.specs.Answers.{is_proper, is_short};
+ghost use Rattle.ocm_first_rules.specs.Numbers.{same_text, number_from, at_number};
+ghost use Rattle.ocm_first_rules.specs.Shares.{share_by, own_share, made, has_secret, share_of_secret, is_used, closed_by, closes, is_closed, live_among, effective_among, holder_among, root_of, need_of, grant_of, grant_to};
+ghost use Rattle.ocm_entry.specs.Proper.{is_proper, is_short};
 ghost use Rattle.ocm_types.specs.Rights.{all_rights};
 ghost use Rattle.ocm_plain.specs.Histories.{AreProper, AreShort};
 

@@ -1,5 +1,5 @@
 ghost use Rattle.std.specs.Prelude.{◌≡◌, ◌∷◌, ◌++◌, [], IfOk, OnOk, IsTrue};
-ghost use Rattle.ocm_rules.specs.Answers.{is_proper};
+ghost use Rattle.ocm_entry.specs.Proper.{is_proper};
 ghost use Rattle.ocm_plain.specs.Histories.{AreProper};
 
 use crate::answer;

@@ -1,6 +1,6 @@
 ghost use Rattle.std.specs.Prelude.{◌≡◌, ◌+◌, ◌<◌, ◌≤◌, ◌^◌, ◌-◌, IfOk, length};
-ghost use Rattle.ocm_rules.specs.Numbers.{number_from};
-ghost use Rattle.ocm_rules.specs.Users.{user_by, users, has_key, user_of_key, is_taken};
+ghost use Rattle.ocm_first_rules.specs.Numbers.{number_from};
+ghost use Rattle.ocm_first_rules.specs.Users.{user_by, users, has_key, user_of_key, is_taken};
 
 use crate::numbers::added;
 use ocm_base::{List, NoMemory};

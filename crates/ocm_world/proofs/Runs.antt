@@ -5,7 +5,8 @@ use Rattle.ocm_base.proofs.Pieces.{Appends-twice}
 use Rattle.ocm_core.specs.Plans.{Tables}
 use Rattle.std.proofs.lemmas.List.{take-append-drop}
 use Rattle.ocm_script.specs.declared.events.Event.{Event}
-use Rattle.ocm_world.specs.Transcript.{Server, Transcript, Runs, Stops, IsAt, WritesPart, Writes, next, printed}
+use Rattle.ocm_world.specs.Running.{Runs, Stops, IsAt}
+use Rattle.ocm_world.specs.Transcript.{Server, Transcript, WritesPart, Writes, next, printed}
 
 -- so far, whatever the rest prints, what was written and that is a transcript of the whole
 pub record GoesOn (all : List Event) (tables : Option Tables) (number : ℕ) (rest : List Event) (old new : Option (List ℕ)) : Type 0 where
@@ -51,7 +52,7 @@ WritesPart-from_stop all tables n e es old mid new h f =
     let whole : Transcript _ _ all (h.text ++ (p ++ r.0)) = h.on (p ++ r.0) (d.0, r.0, refl, r.1) in (
       h.text ++ take k p,
       drop k p ++ r.0,
-      Appends-twice old mid new _ _ h.appends d.1.1,
+      Appends-twice old mid new _ _ h.appends d.1.2,
       rw (split_apart h.text p r.0 k) whole,
     )
 

@@ -1,7 +1,7 @@
 use Rattle.std.proofs.Common.{◌≡◌, ℕ, List, [], ◌∷◌, Bool, true, false, ◌&&◌, Option, Some, None, refl, sym, ap, ◌∙◌, subst}
 use Rattle.std.specs.List.{list_all}
 use Rattle.std.specs.Prelude.{option_map, IsSome, codes, if◌then◌else◌}
-use Rattle.ocm_base.specs.Outside.{Appends}
+use Rattle.ocm_base.specs.Outside.{Appends, AppendsPart}
 use Rattle.ocm_entry.specs.declared.asks.Ask.{Ask}
 use Rattle.ocm_entry.specs.declared.asks.Ask.TheVariants.{AddUser, Local, Offer, Notice, Dav, Due, Settle, Tick, Carry}
 use Rattle.ocm_entry.specs.declared.asks.Cmd.TheVariants as commands
@@ -9,16 +9,17 @@ use Rattle.ocm_entry.specs.declared.asks.Method.TheVariants as methods
 use Rattle.ocm_entry.specs.declared.replies.Reply.{Reply}
 use Rattle.ocm_entry.specs.declared.replies.Reply.TheVariants.{NoMemory}
 use Rattle.ocm_entry.specs.declared.entries.Entry.{Entry}
-use Rattle.ocm_rules.specs.History.{changes_by, kept}
-use Rattle.ocm_rules.specs.State.{State, Stands, state_of, empty_of}
+use Rattle.ocm_first_rules.specs.History.{changes_by, kept}
+use Rattle.ocm_first_rules.specs.State.{State, Stands, state_of, empty_of}
 use Rattle.ocm_core.specs.Plans.{Tables}
 use Rattle.ocm_script.specs.declared.events.Event.{Event}
 use Rattle.ocm_script.specs.declared.events.Event.TheVariants.{Quiet, Node, User, Put, Get, Share, Unshare}
 use Rattle.ocm_script.specs.Events.{bytes_of, has_short_path}
-use Rattle.ocm_rules.specs.Answers.{is_body_of, is_short}
+use Rattle.ocm_entry.specs.Proper.{is_body_of, is_short}
 use Rattle.ocm_world.specs.Asked.{ask_of, node_of, asks_properly}
 use Rattle.ocm_world.specs.Texts.{reply_text, line_text}
-use Rattle.ocm_world.specs.Transcript.{Server, Answers, Runs, RunsAt, Stops, StopsAt, AppendsFront, IsAt, reply_of, asked_server, asked_text, ask_to, is_named, next_by, printed_by}
+use Rattle.ocm_world.specs.Running.{Answers, Runs, RunsAt, Stops, StopsAt, IsAt}
+use Rattle.ocm_world.specs.Transcript.{Server, reply_of, asked_server, asked_text, ask_to, is_named, next_by, printed_by}
 
 -- an ask that wanted memory changes nothing
 pub changes_by-no_memory : (ask : Ask) → changes_by ask NoMemory ≡ false
@@ -72,10 +73,10 @@ RunsAt-written server tables number e reply old new named answered appends =
     subst P (ask_to-named server e named) (answered.0, subst Q (asked_text-reply answered.0 server number (ask_of e) reply answered.1) appends, answered.2)
 
 -- a line whose reply was written in part stopped
-pub StopsAt-written : (server : Server) (tables : Tables) (number : ℕ) (e : Event) (reply : Reply) (old new : Option (List ℕ)) → is_named server e ≡ true → Answers server tables (ask_of e) (Some reply) → AppendsFront old new (line_text number (reply_text reply)) → StopsAt server number e old new
+pub StopsAt-written : (server : Server) (tables : Tables) (number : ℕ) (e : Event) (reply : Reply) (old new : Option (List ℕ)) → is_named server e ≡ true → Answers server tables (ask_of e) (Some reply) → AppendsPart old new (line_text number (reply_text reply)) → StopsAt server number e old new
 StopsAt-written server tables number e reply old new named answered appends =
-    let P : Option Ask → Type 0 = λ o. (wanting : Bool) × AppendsFront old new (asked_text wanting server number o) in
-    let Q : List ℕ → Type 0 = λ text. AppendsFront old new text in
+    let P : Option Ask → Type 0 = λ o. (wanting : Bool) × AppendsPart old new (asked_text wanting server number o) in
+    let Q : List ℕ → Type 0 = λ text. AppendsPart old new text in
     subst P (ask_to-named server e named) (answered.0, subst Q (asked_text-reply answered.0 server number (ask_of e) reply answered.1) appends)
 
 -- a line that makes no server, run whole at the server, was run whole
@@ -89,7 +90,7 @@ Runs-asked before after (Some server) number e old new none at runs =
 pub Stops-asked : (before : Tables) (world : Option Server) (number : ℕ) (e : Event) (old new : Option (List ℕ)) → node_of e ≡ None → IsAt (Some before) world → ((server : Server) → IsAt (Some before) (Some server) → StopsAt server number e old new) → Stops world number e old new
 Stops-asked before None number e old new none at stops = absurd at
 Stops-asked before (Some server) number e old new none at stops =
-    let P : Option (List ℕ) → Type 0 = λ o. (wanting : Bool) × AppendsFront old new (printed_by wanting (Some server) number o e) in
+    let P : Option (List ℕ) → Type 0 = λ o. (wanting : Bool) × AppendsPart old new (printed_by wanting (Some server) number o e) in
     subst P (sym none) (stops server at)
 
 -- PUT takes any body

@@ -4,7 +4,7 @@ use Rattle.ocm_entry.specs.declared.asks.Ask.{Ask}
 use Rattle.ocm_entry.specs.declared.asks.Ask.TheVariants.{AddUser, Local, Dav}
 use Rattle.ocm_entry.specs.declared.asks.Cmd.TheVariants as commands
 use Rattle.ocm_entry.specs.declared.asks.Method.TheVariants as methods
-use Rattle.ocm_rules.specs.Answers.{is_proper}
+use Rattle.ocm_entry.specs.Proper.{is_proper}
 use Rattle.ocm_script.specs.declared.events.Event.{Event}
 use Rattle.ocm_script.specs.declared.events.Event.TheVariants.{Quiet, Node, User, Put, Get, Share, Unshare}
 use Rattle.ocm_script.specs.Events.{bytes_of}

@@ -1,3 +1,4 @@
 pub mod Texts
 pub mod Asked
+pub mod Running
 pub mod Transcript

@@ -1,15 +1,16 @@
 ghost use Rattle.std.specs.Prelude.{◌≡◌, ◌<◌, ◌≤◌, ◌+◌, ◌∷◌, OnOk, OnErr, IfOk, List, length, Option, Some, None, IsTrue, option_copied, Bool, option_map};
 ghost use Rattle.std.specs.List.{list_all};
-ghost use Rattle.ocm_base.specs.Outside.{Appends, Rose};
+ghost use Rattle.ocm_base.specs.Outside.{Appends, AppendsPart, Rose};
 ghost use Rattle.ocm_entry.specs.declared.entries.Entry.{Entry};
-ghost use Rattle.ocm_rules.specs.Answers.{is_proper};
-ghost use Rattle.ocm_rules.specs.Numbers.{same_text};
-ghost use Rattle.ocm_rules.specs.State.{Stands};
+ghost use Rattle.ocm_entry.specs.Proper.{is_proper};
+ghost use Rattle.ocm_first_rules.specs.Numbers.{same_text};
+ghost use Rattle.ocm_first_rules.specs.State.{Stands};
 ghost use Rattle.ocm_script.specs.Events.{has_short_path};
 ghost use Rattle.ocm_world.specs.Asked.{asks_properly};
 ghost use Rattle.ocm_world.specs.Asked as asked;
 ghost use Rattle.ocm_world.specs.Texts as texts;
-ghost use Rattle.ocm_world.specs.Transcript.{Server, Answers, Runs, RunsAt, Stops, StopsAt, IsAt, Writes, WritesPart, AppendsFront, reply_of, is_named};
+ghost use Rattle.ocm_world.specs.Running.{Answers, IsAt, Runs, RunsAt, Stops, StopsAt};
+ghost use Rattle.ocm_world.specs.Transcript.{Server, Writes, WritesPart, is_named, reply_of};
 
 use crate::asked::{ask_of, host_of, node_of};
 use crate::texts::{line_text, reply_text};
@@ -56,7 +57,7 @@ fn write_line<K: Sink>(
     sink: &mut K,
 ) -> Result<(), WorldFault>
     ensures ok { OnOk result (Appends (K.taken sink.old) (K.taken sink.new) (texts.line_text number text.now)) }
-    ensures err { OnErr result (AppendsFront (K.taken sink.old) (K.taken sink.new) (texts.line_text number text.now)) }
+    ensures err { OnErr result (AppendsPart (K.taken sink.old) (K.taken sink.new) (texts.line_text number text.now)) }
     ensures rose { result ≡ Err WorldFault.WriteFault → Rose (K.faults sink.old) (K.faults sink.new) }
     ensures never_falls { K.faults sink.old ≤ K.faults sink.new }
 {
@@ -73,7 +74,7 @@ fn write_reply<K: Sink>(
     sink: &mut K,
 ) -> Result<(), WorldFault>
     ensures ok { OnOk result (Appends (K.taken sink.old) (K.taken sink.new) (texts.line_text number (texts.reply_text reply.now))) }
-    ensures err { OnErr result (AppendsFront (K.taken sink.old) (K.taken sink.new) (texts.line_text number (texts.reply_text reply.now))) }
+    ensures err { OnErr result (AppendsPart (K.taken sink.old) (K.taken sink.new) (texts.line_text number (texts.reply_text reply.now))) }
     ensures rose { result ≡ Err WorldFault.WriteFault → Rose (K.faults sink.old) (K.faults sink.new) }
     ensures never_falls { K.faults sink.old ≤ K.faults sink.new }
 {

@@ -1,17 +1,17 @@
-use Rattle.std.specs.Prelude.{◌≡◌, ℕ, ◌<◌, ◌≤◌, ◌⊎◌, List, [], ◌∷◌, ◌++◌, length, Option, codes, Result, Ok, Err, Bool, nat_lt, nat_eq, ◌||◌, if◌then◌else◌}
+use Rattle.std.specs.Prelude.{◌≡◌, ℕ, ◌<◌, ◌≤◌, ◌⊎◌, List, [], ◌∷◌, ◌++◌, length, Option, None, codes, Result, Ok, Err}
 use Rattle.std.specs.Fmt.{decimal}
 use Rattle.ocm_base.specs.Outside.{Appends}
 use Rattle.ocm_script.specs.declared.events.Event.{Event}
-use Rattle.ocm_script.specs.declared.faults.ScriptFault.{ScriptFault}
 use Rattle.ocm_script.specs.declared.faults.ScriptFault.TheVariants as ends
 use Rattle.ocm_script.specs.Script.{script_of}
-use Rattle.ocm_world.specs.Transcript.{Writes, WritesPart, AppendsFront}
-use Rattle.ocmd.specs.declared.faults.Fault.{Fault}
-use Rattle.ocmd.specs.declared.faults.Fault.TheVariants as faults
-
--- the words of the command that runs a script
-abbrev pub replay_words : List (List ℕ)
-replay_words = codes "replay" ∷ []
+use Rattle.ocm_world.specs.Transcript.{Transcript}
+use Rattle.ocmd.specs.declared.ends.End.{End}
+use Rattle.ocmd.specs.declared.ends.End.TheVariants as whole
+use Rattle.ocmd.specs.declared.ends.Fault.{Fault}
+use Rattle.ocmd.specs.declared.ends.Fault.TheVariants as faults
+use Rattle.ocmd.specs.declared.words.Command.{Command}
+use Rattle.ocmd.specs.declared.words.Command.TheVariants as commands
+use Rattle.ocmd.specs.Words.{most_bytes}
 
 -- the line that tells the commands
 abbrev pub usage_line : List ℕ
@@ -21,49 +21,46 @@ usage_line = codes "usage: ocmd replay|audit|check KIND|drill NUMBER EVENTS|serv
 abbrev pub bad_line : ℕ → List ℕ
 bad_line number = codes "bad line " ++ decimal number ++ 10 ∷ []
 
--- the most bytes of a script
-abbrev pub most_bytes : ℕ
-most_bytes = 16777216
+-- A script gives the status 0 and its transcript, and bytes with a line that is no event give the status 2 and the number of the first such line.
+abbrev pub Replays : List ℕ → End → List ℕ → Type 0
+Replays bytes whole.Done text = (events : List Event) × (script_of bytes ≡ Ok events) × Transcript None 1 events text
+Replays bytes whole.Script text = (number : ℕ) × (script_of bytes ≡ Err (ends.Line number)) × (text ≡ bad_line number)
 
--- the bytes are a script, and the text added is its transcript
-abbrev pub Runs : List ℕ → Option (List ℕ) → Option (List ℕ) → Type 0
-Runs bytes old new = (length bytes ≤ most_bytes) × (events : List Event) × (script_of bytes ≡ Ok events) × Writes events old new
+-- on these bytes the command has this end, and writes this text
+abbrev pub Gives : Command → List ℕ → End → List ℕ → Type 0
+Gives commands.Replay bytes end text = Replays bytes end text
 
--- a line of the bytes is no event, and the text added names the first
-abbrev pub Names : List ℕ → Option (List ℕ) → Option (List ℕ) → Type 0
-Names bytes old new = (length bytes ≤ most_bytes) × (number : ℕ) × (script_of bytes ≡ Err (ends.Line number)) × Appends old new (bad_line number)
+-- the bytes are more than the command takes, or a script has too many lines
+abbrev pub IsLong : Command → List ℕ → Type 0
+IsLong commands.Replay bytes = (most_bytes commands.Replay < length bytes) ⊎ (script_of bytes ≡ Err ends.TooMany)
 
--- the bytes are too many, or their lines are
-abbrev pub IsLong : List ℕ → Type 0
-IsLong bytes = (most_bytes < length bytes) ⊎ (script_of bytes ≡ Err ends.TooMany)
+-- the command took the bytes, had this end, and added its text
+abbrev pub Writes : Command → List ℕ → End → Option (List ℕ) → Option (List ℕ) → Type 0
+Writes command bytes end old new = (length bytes ≤ most_bytes command) × (text : List ℕ) × Appends old new text × Gives command bytes end text
 
--- nothing was added, or the bytes are no longer than a script may be, and a front of its transcript was added, or a front of the line that names its first bad line
-abbrev pub Begins : List ℕ → Option (List ℕ) → Option (List ℕ) → Type 0
-Begins bytes old new =
+-- nothing was added, or a front of the text of a whole run
+abbrev pub WritesPart : Command → List ℕ → Option (List ℕ) → Option (List ℕ) → Type 0
+WritesPart command bytes old new =
     (new ≡ old)
-    ⊎ (((length bytes ≤ most_bytes) × (events : List Event) × (script_of bytes ≡ Ok events) × WritesPart events old new)
-    ⊎ ((length bytes ≤ most_bytes) × (number : ℕ) × (script_of bytes ≡ Err (ends.Line number)) × AppendsFront old new (bad_line number)))
+    ⊎ ((length bytes ≤ most_bytes command) × (end : End) × (text : List ℕ) × (rest : List ℕ) × Appends old new text × Gives command bytes end (text ++ rest))
 
--- the status of each end
-abbrev pub status_of : Result (Unit {0}) Fault → ℕ
-status_of (Ok finished) = 0
-status_of (Err faults.Script) = 2
+-- the status of a run whose text is whole
+abbrev pub end_status : End → ℕ
+end_status whole.Done = 0
+end_status whole.Script = 2
+
+-- the number is the status of a run whose text is whole
+abbrev pub IsWhole : ℕ → Type 0
+IsWhole n = (end : End) × (n ≡ end_status end)
+
+-- the status of a run
+abbrev pub status_of : Result End Fault → ℕ
+status_of (Ok end) = end_status end
 status_of (Err faults.ReadFault) = 3
 status_of (Err faults.WriteFault) = 4
 status_of (Err faults.NoMemory) = 5
 status_of (Err faults.TooLong) = 9
 
--- the numbers that are a status of the commands
-abbrev pub is_status : ℕ → Bool
-is_status n = nat_lt n 6 || nat_eq n 9
-
--- the status by what the bytes are as a script
-abbrev pub status_by : Result (List Event) ScriptFault → ℕ
-status_by (Ok events) = 0
-status_by (Err (ends.Line number)) = 2
-status_by (Err ends.TooMany) = 9
-status_by (Err ends.NoMemory) = 5
-
--- the status of a script that was read and written without a fault, where there was memory
-abbrev pub script_status : List ℕ → ℕ
-script_status bytes = if nat_lt most_bytes (length bytes) then 9 else status_by (script_of bytes)
+-- the number is a status of the commands
+abbrev pub IsStatus : ℕ → Type 0
+IsStatus n = (n ≡ 1) ⊎ ((end : Result End Fault) × (n ≡ status_of end))

@@ -2,10 +2,11 @@
 #![tactic(auto)]
 
 mod commands;
-mod faults;
+mod ends;
 mod scripts;
 #[cfg(test)]
 mod tests;
+mod words;
 
 use crate::commands::{command, usage};
 use ocm_base::{StdSink, StdSource};

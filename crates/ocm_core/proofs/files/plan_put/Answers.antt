@@ -1,8 +1,8 @@
 use Rattle.std.proofs.Common.{◌≡◌, None, sym, ap, subst, ◌∙◌}
 use Rattle.ocm_entry.specs.declared.rows.Node.{Node}
 use Rattle.ocm_entry.specs.declared.rows.Standing.TheVariants as standings
-use Rattle.ocm_rules.specs.Files.{parent_of, limit_of}
-use Rattle.ocm_rules.specs.State.{standing_among}
+use Rattle.ocm_first_rules.specs.Files.{parent_of, limit_of}
+use Rattle.ocm_first_rules.specs.State.{standing_among}
 use Rattle.ocm_core.proofs.PlanningFiles.{put_reply-refused, put_reply-done, put_refusal-none, put_change-done}
 use Rattle.ocm_core.specs.Requests.{put_change}
 use Rattle.ocm_core.specs.declared.changes.Change.TheVariants as changes

@@ -1,5 +1,5 @@
 use Rattle.std.proofs.Common.{ap, ◌∙◌}
-use Rattle.ocm_rules.specs.Users.{user_of_key}
+use Rattle.ocm_first_rules.specs.Users.{user_of_key}
 use Rattle.ocm_core.proofs.Planning.{IfSome-account}
 use Rattle.ocm_core.proofs.shares.account_of.Goals as goal
 

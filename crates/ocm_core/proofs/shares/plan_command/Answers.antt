@@ -1,5 +1,5 @@
 use Rattle.std.proofs.Common.{sym, refl, ◌∙◌}
-use Rattle.ocm_rules.specs.Numbers.{at_number}
+use Rattle.ocm_first_rules.specs.Numbers.{at_number}
 use Rattle.ocm_core.proofs.Planning.{Plans-share}
 use Rattle.ocm_core.proofs.shares.plan_command.Goals as goal
 

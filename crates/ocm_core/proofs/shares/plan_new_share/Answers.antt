@@ -1,7 +1,7 @@
 use Rattle.std.proofs.Common.{sym, ◌∙◌, length}
-use Rattle.ocm_rules.specs.Numbers.{same_text}
-use Rattle.ocm_rules.specs.Shares.{is_used}
-use Rattle.ocm_rules.specs.State.{standing_among}
+use Rattle.ocm_first_rules.specs.Numbers.{same_text}
+use Rattle.ocm_first_rules.specs.Shares.{is_used}
+use Rattle.ocm_first_rules.specs.State.{standing_among}
 use Rattle.ocm_core.proofs.Planning.{share_reply-refused}
 use Rattle.ocm_core.proofs.shares.plan_new_share.Goals as goal
 

@@ -1,7 +1,7 @@
 use Rattle.std.proofs.Common.{rules}
 use Rattle.std.specs.Prelude.{IsTrue}
-use Rattle.ocm_rules.specs.Numbers.{at_number}
-use Rattle.ocm_rules.specs.Answers.{is_short}
+use Rattle.ocm_first_rules.specs.Numbers.{at_number}
+use Rattle.ocm_entry.specs.Proper.{is_short}
 use Rattle.ocm_plain.proofs.Lists.{each_lent, short_found}
 use Rattle.ocm_plain.proofs.shares.share_at.Goals as goal
 

@@ -2,7 +2,7 @@ use Rattle.std.proofs.Common.{◌≡◌, Some, None, sym, ap, ◌∙◌}
 use Rattle.std.specs.Prelude.{option_copied}
 use Rattle.ocm_world.specs.Asked as asked
 use Rattle.ocm_world.proofs.Steps.{Runs-asked, Runs-node}
-use Rattle.ocm_rules.specs.State.{empty_of}
+use Rattle.ocm_first_rules.specs.State.{empty_of}
 use Rattle.ocm_world.proofs.replays.run_event.Goals as goal
 
 pub returns-in_ok-run_asked-in-Some-server-clause-ok :

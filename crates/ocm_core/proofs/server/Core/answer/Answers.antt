@@ -1,7 +1,7 @@
 use Rattle.std.proofs.Common.{sym, ap, ◌∙◌}
-use Rattle.ocm_rules.specs.History.{kept}
-use Rattle.ocm_rules.specs.State.{reply_in}
-use Rattle.ocm_rules.proofs.Readings.{answer_kept-lists}
+use Rattle.ocm_first_rules.specs.History.{kept}
+use Rattle.ocm_first_rules.specs.State.{reply_in}
+use Rattle.ocm_first_rules.proofs.Readings.{answer_kept-lists}
 use Rattle.ocm_core.proofs.server.Core.answer.Goals as goal
 
 pub returns-clause-answer : goal.returns-clause-answer

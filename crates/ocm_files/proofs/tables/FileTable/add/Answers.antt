@@ -2,7 +2,7 @@ use Rattle.std.proofs.Common.{◌≡◌, ◌+◌, length, ◌∙◌, sym, ap, ar
 use Rattle.std.proofs.Common.{Some, cond, refl}
 use Rattle.std.specs.HashMap as hash
 use Rattle.ocm_entry.specs.declared.rows.Place.{Place}
-use Rattle.ocm_rules.specs.Files.{same_place, parent_of, child_count}
+use Rattle.ocm_first_rules.specs.Files.{same_place, parent_of, child_count}
 use Rattle.ocm_files.specs.Tables.{counted}
 use Rattle.ocm_files.proofs.NodeLists.{child_count-le-length}
 use Rattle.ocm_files.proofs.Indexes.{push-with_node}

@@ -1,9 +1,9 @@
 use Rattle.std.proofs.Common.{◌≡◌, subst, rules}
 use Rattle.std.specs.Prelude.{IfSome, IsTrue, reverse}
 use Rattle.ocm_entry.specs.declared.rows.Share.{Share}
-use Rattle.ocm_rules.specs.Numbers.{at_number}
-use Rattle.ocm_rules.specs.Shares.{effective_among}
-use Rattle.ocm_rules.specs.Answers.{is_short}
+use Rattle.ocm_first_rules.specs.Numbers.{at_number}
+use Rattle.ocm_first_rules.specs.Shares.{effective_among}
+use Rattle.ocm_entry.specs.Proper.{is_short}
 use Rattle.ocm_holders.specs.Lists.{ShareRows}
 use Rattle.ocm_holders.proofs.OwnShares.{each_lent, short_found, granted_found}
 use Rattle.ocm_holders.proofs.shares.ShareTable.get.Goals as goal
