@@ -1,0 +1,6 @@
+pub mod Changes
+mod Marking
+pub mod Moments
+mod Outcomes
+mod Places
+mod Tracking

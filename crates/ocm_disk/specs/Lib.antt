@@ -1,0 +1,7 @@
+pub mod Disk
+pub mod Fuse
+pub mod Items
+pub mod Marks
+pub mod Memory
+pub mod Past
+pub mod Shelf

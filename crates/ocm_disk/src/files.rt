@@ -1,0 +1,142 @@
+//! A disk over a real file.
+
+ghost use Rattle.std.specs.Prelude.{◌≡◌, ◌≤◌, ◌^◌, [], IfOk, OnOk, OnErr};
+ghost use Rattle.ocm_base.specs.Outside.{raised};
+
+use crate::disk::Disk;
+use ocm_base::{Failed, NoMemory};
+use std::fs::File;
+use std::io;
+use std::os::unix::fs::FileExt;
+use std::path::Path;
+use std::rt::Files;
+
+/// A disk over a real file. It tells nothing of what it holds, and counts its faults. A call that a signal interrupted
+/// is tried again. Room is free.
+#[derive(Drop)]
+pub struct FileDisk {
+    file: File,
+    len: u64,
+    faults: u64,
+}
+
+impl FileDisk {
+    /// Opens the file at a path, and makes it where there is none. While it is open, no second `FileDisk` opens it,
+    /// in this process or another: that fails with `WouldBlock`. A file that was made is in its folder after a crash.
+    pub fn open<R: Files<File = File>>(files: &R, path: &str) -> io::Result<FileDisk>
+        ensures { IfOk result (λ d. ⟦<FileDisk as Disk>⟧.count d ≡ 0) }
+    {
+        let file = File::options()
+            .read(true)
+            .write(true)
+            .create(true)
+            .open(files, path)?;
+        file.try_lock()?;
+        sync_folder(files, path)?;
+        let len = file.metadata()?.len();
+        Ok(FileDisk {
+            file,
+            len,
+            faults: 0,
+        })
+    }
+
+    /// Counts a fault where the system told one.
+    fn told(&mut self, tell: io::Result<()>) -> Result<(), Failed>
+        ensures len { self.new.len ≡ self.old.len }
+        ensures ok { OnOk result (self.new.faults ≡ self.old.faults) }
+        ensures err { OnErr result (self.new.faults ≡ raised self.old.faults) }
+        ensures later { self.old.faults ≤ self.new.faults }
+    {
+        match tell {
+            Ok(()) => Ok(()),
+            Err(_) => {
+                self.faults = self.faults.saturating_add(1);
+                Err(Failed)
+            }
+        }
+    }
+}
+
+/// Syncs the folder of a path.
+fn sync_folder<R: Files<File = File>>(files: &R, path: &str) -> io::Result<()> {
+    let folder = match Path::new(path).parent() {
+        Some(folder) if !folder.as_str().is_empty() => folder,
+        _ => Path::new("."),
+    };
+    File::open(files, folder)?.sync_all()
+}
+
+impl Disk for FileDisk {
+    ghost tells = { ⊥ };
+
+    ghost seen = { λ d. [] };
+
+    ghost size = { λ d. d.len };
+
+    ghost synced = { λ d. [] };
+
+    ghost torn = { λ d. [] };
+
+    ghost may_leave = { λ d c. Unit {0} };
+
+    ghost moment = { λ d. 0 };
+
+    ghost left_since = { λ d t c. Unit {0} };
+
+    ghost count = { λ d. d.faults };
+
+    ghost spare = { λ d. 2 ^ 64 };
+
+    ghost passes = { λ d n. ⊥ };
+
+    ghost burnt = { λ d n. ⊥ };
+
+    ghost sizes = { λ d t. absurd t };
+
+    ghost reads_an_image = { λ d. tt };
+
+    ghost synced_is_an_image = { λ d. tt };
+
+    ghost torn_is_an_image = { λ d. tt };
+
+    ghost counts_now = { λ d t c le now. tt };
+
+    ghost only_now = { λ d c left. tt };
+
+    fn len(&self) -> u64 {
+        self.len
+    }
+
+    fn faults(&self) -> u64 {
+        self.faults
+    }
+
+    fn room(&mut self, _more: u64) -> Result<(), NoMemory> {
+        Ok(())
+    }
+
+    fn read_at(&mut self, place: u64, buf: &mut [u8]) -> Result<(), Failed> {
+        let tell = self.file.read_exact_at(buf, place);
+        self.told(tell)
+    }
+
+    fn write_at(&mut self, place: u64, bytes: &[u8]) -> Result<(), Failed> {
+        let tell = self.file.write_all_at(bytes, place);
+        self.told(tell)?;
+        self.len = self.len.max(place + bytes.len() as u64);
+        Ok(())
+    }
+
+    fn cut(&mut self, len: u64) -> Result<(), Failed> {
+        let tell = self.file.set_len(len);
+        self.told(tell)?;
+        self.len = len;
+        Ok(())
+    }
+
+    fn sync(&mut self) -> Result<(), Failed> {
+        let tell = self.file.sync_all();
+        self.told(tell)
+    }
+}

@@ -1,0 +1,20 @@
+//! A disk with a clock and a crash model, in memory and over a real file, and a shelf of disks by host.
+#![tactic(auto)]
+
+mod crashes;
+mod disk;
+mod files;
+mod images;
+mod marks;
+mod memory;
+mod overwrite;
+mod shelf;
+#[cfg(test)]
+mod tests;
+mod trace;
+
+pub use crashes::Crash;
+pub use disk::Disk;
+pub use files::FileDisk;
+pub use memory::MemDisk;
+pub use shelf::{Place, Shelf, ShelfFault};
