@@ -1,0 +1,11 @@
+pub mod Tests
+pub mod Same
+pub mod Once
+pub mod Offers
+pub mod Closed
+pub mod Children
+pub mod Records
+pub mod Removed
+pub mod Told
+pub mod Alone
+pub mod Repeated

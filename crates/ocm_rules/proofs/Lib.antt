@@ -1,0 +1,17 @@
+pub mod Lists
+pub mod Numbering
+pub mod Searches
+pub mod Places
+pub mod Nodes
+pub mod Naming
+pub mod Kept
+pub mod Away
+pub mod Letters
+pub mod Outcomes
+pub mod ShareRows
+pub mod SentRows
+pub mod ReceivedRows
+pub mod RequestRows
+pub mod States
+pub mod Endings
+pub mod Steps

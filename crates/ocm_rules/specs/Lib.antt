@@ -1,0 +1,16 @@
+pub mod Numbers
+pub mod Equal
+pub mod Users
+pub mod Shares
+pub mod Holders
+pub mod Files
+pub mod Settlements
+pub mod Offers
+pub mod Requests
+pub mod Views
+pub mod Messages
+pub mod Answers
+pub mod History
+pub mod Lean
+pub mod State
+pub mod Cases

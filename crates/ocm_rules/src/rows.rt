@@ -1,0 +1,75 @@
+ghost use Rattle.std.specs.Prelude.{◌≡◌, IfOk};
+
+use ocm_base::NoMemory;
+use ocm_entry::Share;
+use ocm_types::{Host, Letter, Offer, Perms, Phase};
+
+/// What a message is about. Of the messages about one thing, the later wait for the earlier.
+#[derive(Clone, Copy, Debug, PartialEq, Eq)]
+pub enum Subject {
+    /// The share of this number, which was made here.
+    Share { id: u32 },
+    /// The received offer of this number.
+    Received { number: u32 },
+    /// The request of this number to share further.
+    Request { request: u32 },
+}
+
+/// A message to another server. A server's messages are numbered from 1.
+#[derive(Debug, Drop, PartialEq, Eq)]
+pub struct Message {
+    pub subject: Subject,
+    /// The server that it is for.
+    pub to: Host,
+    pub letter: Letter,
+}
+
+impl Message {
+    /// The same message once more.
+    pub fn copy(&self) -> Result<Message, NoMemory>
+        ensures { IfOk result (λ m. m ≡ self.now) }
+    {
+        let to = self.to.copy()?;
+        let letter = self.letter.copy()?;
+        Ok(Message {
+            subject: self.subject,
+            to,
+            letter,
+        })
+    }
+}
+
+/// What a guest was told of the permissions of a received share: the number of the last change, 0
+/// before the first, and the permissions.
+#[derive(Clone, Copy, Debug, PartialEq, Eq)]
+pub struct Told {
+    pub serial: u32,
+    pub perms: Perms,
+}
+
+/// A share with what became of it.
+#[derive(Debug, Drop, PartialEq, Eq)]
+pub struct ShareRow {
+    pub share: Share,
+    /// Those of its last limit, else what was granted.
+    pub perms: Perms,
+    /// Whether this very share was closed, whatever became of those above it.
+    pub closed: bool,
+    /// The moment at which it ends, where one was set.
+    pub end: Option<u64>,
+}
+
+/// A received offer with what became of it.
+#[derive(Debug, Drop, PartialEq, Eq)]
+pub struct ReceivedRow {
+    pub offer: Offer,
+    pub phase: Phase,
+    pub told: Told,
+}
+
+/// A message with whether it is settled.
+#[derive(Debug, Drop, PartialEq, Eq)]
+pub struct SentRow {
+    pub message: Message,
+    pub settled: bool,
+}

@@ -1,0 +1,128 @@
+-- A join of two seats keeps the rule.
+use Rattle.std.proofs.Common.{◌≡◌, ℕ, ◌≢◌, inl, inr, ⊎_elim, List, [], ◌∷◌, set, refl, sym, ap, ◌∙◌, subst, arith, true, false, Option, Some, append-nil}
+use mathlib.Core.Logic.{dite}
+use mathlib.Core.Option as home
+use mathlib.Core.Option.{some-injective}
+use native.Mathlib.Decide.{ℕ_discrete}
+use lib.ListN.{get_elem?}
+use Rattle.atomic_table.specs.Table.{Joins}
+use Rattle.atomic_table.proofs.Lists.{at_set, set_else}
+use Rattle.ocm_entry.specs.declared.entries.Entry.{Entry}
+use Rattle.ocm_turn.specs.declared.view.Call.{Call}
+use Rattle.ocm_turn.specs.declared.view.View.{View}
+use Rattle.ocm_turn.specs.declared.view.Stage.TheVariants.{Named}
+use Rattle.ocm_turn.specs.Calls.{IsOlderPart, Each, Disjoint, entry_at}
+use Rattle.ocm_turn.specs.Rule.{spent_view, IsIdle, Fits, Sees, EachView, SomeView, Rule, Holds}
+use Rattle.ocm_turn.specs.Steps.{joined}
+use Rattle.ocm_turn.proofs.CallLemmas.{older_self, stand_older, shorter_longer, left_older, right_older, longer_either, longer_left, longer_right, each_merged, in_order_merged, disjoint_none}
+use Rattle.ocm_turn.proofs.ViewLemmas.{set_swap, here_again, spent_new, spent_named, no_ticket, not_both, some_set, each_set, one_hand_set, apart_set}
+use Rattle.ocm_turn.proofs.RuleLemmas.{kept_at}
+
+module _ {T G : Type 0} (terms_of : T → G) (stands : T → List Entry → List Entry → Type 0) (legal : G → List Entry → List Entry → Type 0) (limit : ℕ) where
+  module _ (terms : G) (base history : List Entry) (next : ℕ) (homes : List (home.Option (Option T))) (views : List (View G)) (id other : ℕ) (v w : View G)
+      (h : Rule terms_of stands legal limit terms base history next homes views) (at : Sees views id v) (at2 : Sees views other w) (differ : other ≢ id) (quiet : IsIdle v) (idle : IsIdle w) where
+    abbrev both : View G
+    both = joined v w
+
+    abbrev F : View G → Type 0
+    F = Fits limit terms base history next
+
+    fits_spent : F spent_view
+    fits_spent = record {
+      stage = spent_new;
+      limit_is = λ e. absurd (spent_named e);
+      base_is = λ e. absurd (spent_named e);
+      terms_are = λ e. absurd (spent_named e);
+      seen = (history, sym (append-nil history));
+      heard = older_self [];
+      mine = tt;
+      order = tt;
+      drawn = omega arith;
+      ticket = λ t e. absurd (no_ticket t e);
+      turn = λ e. absurd (not_both e);
+    }
+
+    fits_both : F both
+    fits_both =
+        let a = h.each id v at in
+        let b = h.each other w at2 in
+        let c = a.drawn in
+        let d = b.drawn in
+        record {
+          stage = a.stage;
+          limit_is = a.limit_is;
+          base_is = a.base_is;
+          terms_are = a.terms_are;
+          seen = longer_either (λ l. IsOlderPart l history) v.seen w.seen a.seen b.seen;
+          heard = shorter_longer v.seen w.seen history a.seen b.seen;
+          mine = each_merged (λ x. entry_at both.seen x.place ≡ Some x.entry) v.mine w.mine
+              (stand_older v.seen both.seen v.mine (left_older v.seen w.seen history a.seen b.seen) a.mine)
+              (stand_older w.seen both.seen w.mine (right_older v.seen w.seen history a.seen b.seen) b.mine);
+          order = in_order_merged v.mine w.mine a.order b.order (h.apart id other v w (λ e. differ (sym e)) at at2);
+          drawn = omega (arith, c, d);
+          ticket = a.ticket;
+          turn = λ on. absurd (not_both (sym quiet.1 ∙ on));
+        }
+
+    abbrev views1 : List (View G)
+    views1 = set views other spent_view
+
+    at1 : Sees views1 id v
+    at1 = set_else views other id spent_view (λ e. differ (sym e)) ∙ at
+
+    told_both : SomeView views (λ u. (u.stage ≡ Named) × (u.seen ≡ history)) → SomeView (set views1 id both) (λ u. (u.stage ≡ Named) × (u.seen ≡ history))
+    told_both s =
+        let a = h.each id v at in
+        let b = h.each other w at2 in
+        let here : Sees (set views1 id both) id both = here_again views1 id v both at1 in
+        dite (ℕ_discrete s.0 id)
+        (λ same. let one : s.1 ≡ v = some-injective s.1 v (sym s.2 ∙ (ap (get_elem? views) same ∙ at)) in
+        (id, both, here, (quiet.2, longer_left v.seen w.seen history b.seen (sym (ap (λ (y : View G). y.seen) one) ∙ s.3.1))))
+        (λ not_id. dite (ℕ_discrete s.0 other)
+        (λ same. let one : s.1 ≡ w = some-injective s.1 w (sym s.2 ∙ (ap (get_elem? views) same ∙ at2)) in
+        (id, both, here, (quiet.2, longer_right v.seen w.seen history a.seen (sym (ap (λ (y : View G). y.seen) one) ∙ s.3.1))))
+        (λ not_other. (s.0, s.1, set_else views1 id s.0 both not_id ∙ (set_else views other s.0 spent_view not_other ∙ s.2), s.3)))
+
+    into_one : Rule terms_of stands legal limit terms base history next homes (set views1 id both)
+    into_one = record {
+      order = h.order;
+      bounded = h.bounded;
+      lawful = h.lawful;
+      each = each_set views1 id v both at1 F F (λ j u _ _ f. f) fits_both (each_set views other w spent_view at2 F F (λ j u _ _ f. f) fits_spent h.each);
+      waiting = λ t low high. some_set views1 id v both at1 (λ u. u.ticket ≡ Some t) (λ e. e)
+          (some_set views other w spent_view at2 (λ u. u.ticket ≡ Some t) (λ e. absurd (no_ticket t (sym idle.0 ∙ e))) (h.waiting t low high));
+      one_hand = one_hand_set views1 id v both at1 (one_hand_set views other w spent_view at2 h.one_hand (λ t j u has _ _ _. absurd (no_ticket t has)))
+          (λ t j u has _ _ _. no_ticket t (sym quiet.0 ∙ has));
+      apart = apart_set views1 id v both at1 (apart_set views other w spent_view at2 h.apart (λ j u _ _. tt))
+          (λ j u not_id at'. ⊎_elim
+          (λ (m : (j ≡ other) × (spent_view ≡ u)). subst (λ (y : View G). Disjoint both.mine y.mine) m.1 (disjoint_none both.mine))
+          (λ (m : (j ≢ other) × Sees views j u). each_merged (λ (c : Call). Each (λ (d : Call). c.place ≢ d.place) u.mine) v.mine w.mine
+          (h.apart id j v u (λ e. not_id (sym e)) at m.1) (h.apart other j w u (λ e. m.0 (sym e)) at2 m.1)) (at_set views other j spent_view u at'));
+      told = told_both h.told;
+      at_home = ⊎_elim
+          (λ (m : (x : T) × (homes ≡ home.some (Some x) ∷ []) × (terms_of x ≡ terms) × stands x base history × EachView views (λ u. u.turn ≡ false)).
+          inl (
+            m.0,
+            m.1,
+            m.2,
+            m.3,
+            each_set views1 id v both at1 (λ u. u.turn ≡ false) (λ u. u.turn ≡ false) (λ j u _ _ f. f) quiet.1
+                (each_set views other w spent_view at2 (λ u. u.turn ≡ false) (λ u. u.turn ≡ false) (λ j u _ _ f. f) refl m.4),
+          ))
+          (λ (m : (homes ≡ home.none ∷ []) × SomeView views (λ u. u.turn ≡ true)).
+          inr (m.0, some_set views1 id v both at1 (λ u. u.turn ≡ true) (λ e. e) (some_set views other w spent_view at2 (λ u. u.turn ≡ true) (λ e. absurd (not_both (sym idle.1 ∙ e))) m.1))) h.at_home;
+    }
+
+  pub joins_keep : (value : T) (id other : ℕ) (v w : View G) → IsIdle v → IsIdle w → Joins (Holds terms_of stands legal limit value) id v other w (joined v w) spent_view
+  joins_keep value id other v w quiet idle s given at apart at' =
+      let terms : G = terms_of value in
+      let k = kept_at terms_of stands legal limit value s given id v at quiet.2 in
+      let at2 : Sees s.views other w = sym (set_else s.views id other (joined v w) apart) ∙ at' in
+      inr record {
+        base = k.base;
+        history = k.history;
+        next = k.next;
+        words = k.words;
+        rule = subst (Rule terms_of stands legal limit terms k.base k.history k.next s.homes) (set_swap s.views other id spent_view (joined v w) apart)
+            (into_one terms k.base k.history k.next s.homes s.views id other v w k.rule at at2 apart quiet idle);
+      }

@@ -1,0 +1,9 @@
+pub mod CallLemmas
+pub mod ViewLemmas
+pub mod RuleLemmas
+pub mod DrawKeeps
+pub mod LookKeeps
+pub mod FinishKeeps
+pub mod SplitKeeps
+pub mod JoinKeeps
+pub mod NameKeeps

@@ -1,0 +1,89 @@
+-- The rule that the turnstile's table keeps between any two steps.
+-- Word 0 is the next ticket, word 1 the number of calls done, and slot 0 holds the value or nothing. A seat's number is its place among the views.
+use Rattle.std.specs.Prelude.{◌≡◌, ◌≢◌, ℕ, ◌+◌, ◌<◌, ◌≤◌, List, [], ◌∷◌, length, true, false, Option, Some, None, ◌⊎◌}
+use mathlib.Core.Option as home
+use lib.ListN.{get_elem?}
+use Rattle.atomic_table.specs.Table.{State}
+use Rattle.ocm_entry.specs.declared.entries.Entry.{Entry}
+use Rattle.ocm_turn.specs.declared.view.View.{View}
+use Rattle.ocm_turn.specs.declared.view.Stage.TheVariants.{New, Named, Spent}
+use Rattle.ocm_turn.specs.Calls.{IsOlderPart, StandIn, InOrder, Disjoint}
+
+-- the view of the first seat, before its base is named
+abbrev pub newcomer : {G : Type 0} → ℕ → G → View G
+newcomer limit terms = record { stage = New; limit = limit; terms = Some terms; base = []; seen = []; heard = []; mine = []; ticket = None; turn = false; drawn = 0 }
+
+-- the view of a seat that was joined to another
+abbrev pub spent_view : {G : Type 0} → View G
+spent_view = record { stage = Spent; limit = 0; terms = None; base = []; seen = []; heard = []; mine = []; ticket = None; turn = false; drawn = 0 }
+
+-- no ticket in hand
+abbrev pub IsIdle : {G : Type 0} → View G → Type 0
+IsIdle v = (v.ticket ≡ None) × (v.turn ≡ false) × (v.stage ≡ Named)
+
+-- a view agrees with the limit, the terms, the base, the history and the next ticket
+pub record Fits {G : Type 0} (limit : ℕ) (terms : G) (base history : List Entry) (next : ℕ) (v : View G) : Type 0 where
+  pub stage : v.stage ≢ New
+  pub limit_is : v.stage ≡ Named → v.limit ≡ limit
+  pub base_is : v.stage ≡ Named → v.base ≡ base
+  pub terms_are : v.stage ≡ Named → v.terms ≡ Some terms
+  pub seen : IsOlderPart v.seen history
+  pub heard : IsOlderPart v.heard v.seen
+  pub mine : StandIn v.seen v.mine
+  pub order : InOrder v.mine
+  pub drawn : v.drawn ≤ next
+  pub ticket : (t : ℕ) → v.ticket ≡ Some t → (length history ≤ t) × (t < next)
+  pub turn : v.turn ≡ true → (v.ticket ≡ Some (length history)) × (v.seen ≡ history)
+
+module _ {G : Type 0} (views : List (View G)) where
+  -- the view of the seat j is v
+  abbrev pub Sees : ℕ → View G → Type 0
+  Sees j v = get_elem? views j ≡ home.some v
+
+  -- a fact of every view
+  abbrev pub EachView : (View G → Type 0) → Type 0
+  EachView P = (j : ℕ) (v : View G) → Sees j v → P v
+
+  -- a fact of some view
+  abbrev pub SomeView : (View G → Type 0) → Type 0
+  SomeView P = (j : ℕ) × (v : View G) × Sees j v × P v
+
+-- no ticket is in the hand of two views
+abbrev pub OneHand : {G : Type 0} → List (View G) → Type 0
+OneHand {G} views = (i j : ℕ) (v w : View G) (t : ℕ) → Sees views i v → Sees views j w → v.ticket ≡ Some t → w.ticket ≡ Some t → i ≡ j
+
+-- no place has the calls of two views
+abbrev pub AllApart : {G : Type 0} → List (View G) → Type 0
+AllApart {G} views = (i j : ℕ) (v w : View G) → i ≢ j → Sees views i v → Sees views j w → Disjoint v.mine w.mine
+
+module _ {T G : Type 0} (terms_of : T → G) (stands : T → List Entry → List Entry → Type 0) (legal : G → List Entry → List Entry → Type 0) (limit : ℕ) (terms : G) where
+  -- the base, the one history, and the next ticket
+  pub record Rule (base history : List Entry) (next : ℕ) (homes : List (home.Option (Option T))) (views : List (View G)) : Type 0 where
+    pub order : length history ≤ next
+    pub bounded : next ≤ limit + 1
+    pub lawful : legal terms base history
+    pub each : EachView views (Fits limit terms base history next)
+    pub waiting : (t : ℕ) → length history ≤ t → t < next → SomeView views (λ v. v.ticket ≡ Some t)
+    pub one_hand : OneHand views
+    pub apart : AllApart views
+    pub told : SomeView views (λ v. (v.stage ≡ Named) × (v.seen ≡ history))
+    pub at_home : ((x : T) × (homes ≡ home.some (Some x) ∷ []) × (terms_of x ≡ terms) × stands x base history × EachView views (λ v. v.turn ≡ false))
+        ⊎ ((homes ≡ home.none ∷ []) × SomeView views (λ v. v.turn ≡ true))
+
+  -- the rule in full
+  pub record Kept (s : State (Option T) (View G)) : Type 0 where
+    pub base : List Entry
+    pub history : List Entry
+    pub next : ℕ
+    pub words : s.words ≡ next ∷ length history ∷ []
+    pub rule : Rule base history next s.homes s.views
+
+  -- the table just opened, before the base is named
+  pub record Opened (value : T) (s : State (Option T) (View G)) : Type 0 where
+    pub words : s.words ≡ 0 ∷ 0 ∷ []
+    pub homes : s.homes ≡ home.some (Some value) ∷ []
+    pub views : s.views ≡ newcomer limit terms ∷ []
+
+-- the fact that the table keeps, where it was made with this limit and value
+abbrev pub Holds : {T G : Type 0} → (T → G) → (T → List Entry → List Entry → Type 0) → (G → List Entry → List Entry → Type 0) → ℕ → T → State (Option T) (View G) → Type 0
+Holds terms_of stands legal limit value s = Opened terms_of stands legal limit (terms_of value) value s ⊎ Kept terms_of stands legal limit (terms_of value) s

@@ -1,0 +1,71 @@
+-- What each kind of step does to the seat's own view, and what it tells.
+use Rattle.std.specs.Prelude.{◌≡◌, ◌≢◌, ℕ, ◌+◌, ◌≤◌, List, [], ◌∷◌, length, true, false, Option, Some, None, max, unwrap_or}
+use Rattle.atomic_table.specs.Table.{Me, Step, rest}
+use Rattle.ocm_entry.specs.declared.entries.Entry.{Entry}
+use Rattle.ocm_turn.specs.declared.view.View.{View}
+use Rattle.ocm_turn.specs.declared.view.Stage.TheVariants.{Named}
+use Rattle.ocm_turn.specs.Calls.{IsOlderPart, StandIn, InOrder, call, merged, longer, shorter}
+
+module _ {G : Type 0} where
+  -- the base is named
+  abbrev pub named : View G → List Entry → View G
+  named v base = record v { stage = Named; base = base }
+
+  -- a ticket was drawn
+  abbrev pub ticketed : View G → ℕ → View G
+  ticketed v n = record v { ticket = Some n; drawn = n }
+
+  -- this word was found, and no ticket drawn
+  abbrev pub found_at : View G → ℕ → View G
+  found_at v n = record v { drawn = n }
+
+  -- the turn has come, at this history
+  abbrev pub turned_to : View G → List Entry → View G
+  turned_to v history = record v { seen = history; heard = history; turn = true }
+
+  -- a call was finished with this entry
+  abbrev pub finished : View G → Entry → View G
+  finished v e = record v { seen = e ∷ v.seen; mine = call (unwrap_or v.ticket 0) e ∷ v.mine; ticket = None; turn = false }
+
+  -- a whole call, whose turn came at this history
+  abbrev pub called : View G → List Entry → Entry → View G
+  called v history e = finished (turned_to (ticketed v (length history)) history) e
+
+  -- what was seen is legal under the view's terms
+  abbrev pub IsLegal : (G → List Entry → List Entry → Type 0) → View G → Type 0
+  IsLegal legal v = (terms : G) × (v.terms ≡ Some terms) × legal terms v.base v.seen
+
+  -- a new seat beside this one: it has seen the same and made no call
+  abbrev pub beside : View G → View G
+  beside v = record v { mine = []; ticket = None; turn = false }
+
+  -- both seats in one
+  abbrev pub joined : View G → View G → View G
+  joined v w = record v { seen = longer v.seen w.seen; heard = shorter v.seen w.seen; mine = merged v.mine w.mine; drawn = max v.drawn w.drawn }
+
+  -- what the rule says of a view by itself
+  pub record Sound (v : View G) : Type 0 where
+    pub heard : IsOlderPart v.heard v.seen
+    pub mine : StandIn v.seen v.mine
+    pub order : InOrder v.mine
+
+module _ {T G : Type 0} where
+  -- the base is named, at a load of word 0: one of which this is known
+  abbrev pub names : (List Entry → Type 0) → Step (Option T) → Me (Option T) (View G) → ℕ → Me (Option T) (View G) → Type 0
+  names known st m r m' = (base : List Entry) × (m' ≡ (named m.0 base, m.1)) × known base
+
+  -- a try to draw a ticket, by an exchange of word 0
+  abbrev pub draws : Step (Option T) → Me (Option T) (View G) → ℕ → Me (Option T) (View G) → Type 0
+  draws st m r m' = (m'.1 ≡ m.1) × (m.0.drawn ≤ r) × (r ≡ st.first → m'.0 ≡ ticketed m.0 r) × (r ≢ st.first → m'.0 ≡ found_at m.0 r)
+
+  -- a look at word 1 whose turn has come takes the slot
+  abbrev pub looks : (T → G) → (T → List Entry → List Entry → Type 0) → (G → List Entry → List Entry → Type 0) → Step (Option T) → Me (Option T) (View G) → ℕ → Me (Option T) (View G) → Type 0
+  looks terms_of stands legal st m r m' =
+      (m.0.ticket ≡ Some r → (x : T) × (history : List Entry) × (m'.0 ≡ turned_to m.0 history) × (m'.1 ≡ (0, Some x) ∷ m.1)
+      × (m.0.terms ≡ Some (terms_of x)) × stands x m.0.base history × legal (terms_of x) m.0.base history × IsOlderPart m.0.seen history × (length history ≡ r))
+      × (m.0.ticket ≢ Some r → m' ≡ m)
+      × Sound m'.0 × (length m'.0.mine ≤ m.0.limit + 1)
+
+  -- a finish, by an add to word 1, gives the slot home
+  abbrev pub finishes : Entry → Step (Option T) → Me (Option T) (View G) → ℕ → Me (Option T) (View G) → Type 0
+  finishes e st m r m' = (m'.1 ≡ rest m.1) × (m'.0 ≡ finished m.0 e) × Sound m'.0 × (length m'.0.mine ≤ length m'.0.seen)

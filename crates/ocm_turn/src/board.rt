@@ -1,0 +1,232 @@
+ghost use Rattle.std.specs.Prelude.{◌≡◌, ◌≢◌, ◌<◌, ◌≤◌, ◌+◌, ◌^◌, List, [], ◌∷◌, Option, Some, None, IfSome, IfNone, IfOk, IfErr, OnOk, OnErr, IsTrue, true, false, length};
+ghost use Rattle.ocm_entry.specs.Proper.{is_proper};
+ghost use Rattle.ocm_entry.specs.declared.entries.Entry.{Entry};
+ghost use Rattle.ocm_turn.specs.Calls.{entry, IsOlderPart, StandIn, InOrder};
+ghost use Rattle.ocm_turn.specs.Rule.{newcomer, IsIdle};
+ghost use Rattle.ocm_turn.specs.Steps.{named, ticketed, found_at, turned_to, finished, called, IsLegal, beside, joined, Sound};
+ghost use Rattle.ocm_turn.specs.declared.view.Stage.TheVariants.{Named};
+
+use crate::rule::{Cut, Draw, Finish, Founded, Glue, Law, Look, Name, Start, Told};
+use crate::turnstile::Spent;
+use crate::view::View;
+use atomic_table::{Seat, Table};
+use ocm_entry::{Ask, Object, Reply};
+use std::alloc::Global;
+use std::marker::Brand;
+use std::snapshot::Snapshot;
+use std::sync::Wait;
+
+/// Word 0: the next ticket.
+const NEXT: usize = 0;
+/// Word 1: the number of calls done.
+const DONE: usize = 1;
+/// The slot of the value.
+const VALUE: usize = 0;
+
+/// A seat at the table behind a turnstile.
+pub type Place<T: Object> = Seat<Option<T>, View<T::Terms>>;
+
+/// The table behind a turnstile, with the steps that keep its rule.
+#[derive(Drop)]
+pub struct Board<T: Object> {
+    table: Table<Option<T>, View<T::Terms>, Start<T>, Law<T>, Global>,
+    limit: u64,
+    ghost limits: { (table.shared.key.limit ≡ limit) × (1 ≤ limit) × (limit ≤ 2 ^ 63) },
+    ghost counts: { (table.shared.table_id.words ≡ 2) × (table.shared.table_id.slots ≡ 1) },
+}
+
+impl<T: Object> Board<T> {
+    /// A board with the value at home, and its first seat. An `Err` is want of memory.
+    pub fn make<J: Founded>(alloc: Global, value: T, limit: u64) -> Result<(Board<T>, Place<T>), T>
+        requires limit { (1 ≤ limit) × (limit ≤ 2 ^ 63) }
+        requires value { (base : List Entry) × J.known base × T.stands value base [] × T.legal (T.terms value) base [] }
+        ensures own { IfOk result (λ r. (r.1.table_id ≡ r.0.table.shared.table_id) × (r.0.limit ≡ limit)) }
+        ensures seat { IfOk result (λ r. (base : List Entry) × (r.1.me ≡ (named (newcomer limit (T.terms value)) base, []))
+            × J.known base × T.stands value base [] × T.legal (T.terms value) base []) }
+        ensures err { IfErr result (λ v. v ≡ value) }
+    {
+        let about = Start {
+            limit,
+            value: Snapshot::of(&value),
+        };
+        let mut slots = Vec::new(alloc);
+        if let Err(failed) = slots.push(Some(value)) {
+            return Err(failed.value.unwrap());
+        }
+        match Table::new(alloc, &[0, 0], slots, &about) {
+            Ok((table, mut seat)) => {
+                let board = Board { table, limit };
+                board.name::<Brand>(&mut seat);
+                Ok((board, seat))
+            }
+            Err(refused) => {
+                let mut slots = refused.slots;
+                Err(slots.pop().unwrap().unwrap())
+            }
+        }
+    }
+
+    fn name<J: Founded>(&self, seat: &mut Place<T>)
+        requires own { (seat.old.table_id ≡ self.now.table.shared.table_id) × (seat.old.me ≡ (newcomer self.now.table.shared.key.limit (T.terms self.now.table.shared.key.value.value), [])) }
+        requires value { (base : List Entry) × J.known base × T.stands self.now.table.shared.key.value.value base [] × T.legal (T.terms self.now.table.shared.key.value.value) base [] }
+        ensures own { seat.new.table_id ≡ seat.old.table_id }
+        ensures named { (base : List Entry) × (seat.new.me ≡ (named seat.old.me.0 base, [])) × J.known base }
+    {
+        self.table.shared.load::<Name<J>>(seat, NEXT);
+    }
+
+    /// Draws a ticket below the limit, or none where the word that was found is not below it.
+    pub fn draw<R: Wait>(&self, rt: &R, seat: &mut Place<T>) -> Option<u64>
+        requires own { (seat.old.table_id ≡ self.now.table.shared.table_id) × IsIdle seat.old.me.0 × (seat.old.me.1 ≡ []) }
+        ensures own { (seat.new.table_id ≡ seat.old.table_id) × (seat.new.me.1 ≡ []) }
+        ensures some { IfSome result (λ n. (seat.new.me.0 ≡ ticketed seat.old.me.0 n) × (n < self.now.limit) × (seat.old.me.0.drawn ≤ n)) }
+        ensures none { IfNone result ((seat.new.me.0 ≡ found_at seat.old.me.0 seat.new.me.0.drawn) × (self.now.limit ≤ seat.new.me.0.drawn) × (seat.old.me.0.drawn ≤ seat.new.me.0.drawn)) }
+    {
+        for _ in rt.forever() {
+            let next = self.table.shared.peek(NEXT).min(self.limit - 1);
+            let found = self
+                .table
+                .shared
+                .compare_exchange::<Draw>(seat, NEXT, next, next + 1);
+            if found == next {
+                return Some(found);
+            }
+            if found >= self.limit {
+                return None;
+            }
+        }
+        unreachable!()
+    }
+
+    /// Draws a ticket behind all others, also at the limit.
+    pub fn draw_last<R: Wait>(&self, rt: &R, seat: &mut Place<T>) -> u64
+        requires own { (seat.old.table_id ≡ self.now.table.shared.table_id) × IsIdle seat.old.me.0 × (seat.old.me.1 ≡ []) }
+        ensures own { (seat.new.table_id ≡ seat.old.table_id) × (seat.new.me.1 ≡ []) }
+        ensures ticket { seat.new.me.0 ≡ ticketed seat.old.me.0 result }
+    {
+        for _ in rt.forever() {
+            let next = self.table.shared.peek(NEXT).min(self.limit);
+            let found = self
+                .table
+                .shared
+                .compare_exchange::<Draw>(seat, NEXT, next, next + 1);
+            if found == next {
+                return found;
+            }
+        }
+        unreachable!()
+    }
+
+    /// Returns at the turn of the ticket, with the value in the seat's hands. Sleeps until then.
+    pub fn wait_turn<R: Wait>(&self, rt: &R, seat: &mut Place<T>, ticket: u64)
+        requires own { seat.old.table_id ≡ self.now.table.shared.table_id }
+        requires ticket { (seat.old.me.0.ticket ≡ Some ticket) × (seat.old.me.0.turn ≡ false) × (seat.old.me.0.stage ≡ Named) × (seat.old.me.1 ≡ []) }
+        ensures own { seat.new.table_id ≡ seat.old.table_id }
+        ensures turn { (x : T) × (history : List Entry) × (seat.new.me.0 ≡ turned_to seat.old.me.0 history) × (seat.new.me.1 ≡ (0, Some x) ∷ [])
+            × (seat.old.me.0.terms ≡ Some (T.terms x)) × T.stands x seat.old.me.0.base history × T.legal (T.terms x) seat.old.me.0.base history
+            × IsOlderPart seat.old.me.0.seen history × (length history ≡ ticket) }
+        ensures sound { Sound seat.new.me.0 }
+    {
+        for _ in rt.forever() {
+            let done = self.table.shared.load::<Look>(seat, DONE);
+            if done == ticket {
+                return;
+            }
+            self.table
+                .shared
+                .park(rt, DONE, (done & 0xffff_ffff) as u32);
+        }
+        unreachable!()
+    }
+
+    /// Takes the value out.
+    pub fn take_out(&self, seat: &mut Place<T>) -> T
+        requires own { seat.old.table_id ≡ self.now.table.shared.table_id }
+        requires holds { (x : T) × (seat.old.me.1 ≡ (0, Some x) ∷ []) }
+        ensures own { (seat.new.table_id ≡ seat.old.table_id) × (seat.new.me ≡ (seat.old.me.0, (0, None) ∷ [])) }
+        ensures value { seat.old.me.1 ≡ (0, Some result) ∷ [] }
+    {
+        self.table.shared.exchange(seat, VALUE, None).unwrap()
+    }
+
+    /// Puts the value back.
+    pub fn put_back(&self, seat: &mut Place<T>, value: T)
+        requires own { (seat.old.table_id ≡ self.now.table.shared.table_id) × (seat.old.me.1 ≡ (0, None) ∷ []) }
+        ensures own { (seat.new.table_id ≡ seat.old.table_id) × (seat.new.me ≡ (seat.old.me.0, (0, Some value) ∷ [])) }
+    {
+        drop(self.table.shared.exchange(seat, VALUE, Some(value)));
+    }
+
+    /// Ends a call: the history gets its entry, and the next ticket has its turn.
+    pub fn finish<E: Told>(&self, seat: &mut Place<T>, ask: &Snapshot<Ask>, reply: &Reply)
+        requires own { seat.old.table_id ≡ self.now.table.shared.table_id }
+        requires told { E.told ≡ entry ask.now.value reply.now }
+        requires turn { (seat.old.me.0.turn ≡ true) × (seat.old.me.0.stage ≡ Named) }
+        requires value { (x : T) × (seat.old.me.1 ≡ (0, Some x) ∷ []) × (seat.old.me.0.terms ≡ Some (T.terms x)) × T.stands x seat.old.me.0.base (E.told ∷ seat.old.me.0.seen) × T.legal (T.terms x) seat.old.me.0.base (E.told ∷ seat.old.me.0.seen) }
+        ensures own { (seat.new.table_id ≡ seat.old.table_id) × (seat.new.me.1 ≡ []) }
+        ensures told { seat.new.me.0 ≡ finished seat.old.me.0 E.told }
+        ensures sound { Sound seat.new.me.0 × (length seat.new.me.0.mine ≤ length seat.new.me.0.seen) }
+    {
+        let done = self.table.shared.fetch_add::<Finish<E>>(seat, DONE, 1);
+        // Whoever draws a ticket after this look finds its turn at once, and does not sleep.
+        if self.table.shared.peek(NEXT) != done.wrapping_add(1) {
+            self.table.shared.wake_all(DONE);
+        }
+    }
+
+    /// One call: draws a ticket, waits for its turn, and asks the value.
+    pub fn take_turn<R: Wait>(&self, rt: &R, seat: &mut Place<T>, ask: Ask) -> Result<Reply, Spent>
+        requires own { (seat.old.table_id ≡ self.now.table.shared.table_id) × IsIdle seat.old.me.0 × (seat.old.me.1 ≡ []) }
+        requires proper { IsTrue (is_proper ask) }
+        ensures own { (seat.new.table_id ≡ seat.old.table_id) × (seat.new.me.1 ≡ []) }
+        ensures ok { IfOk result (λ r. (history : List Entry)
+            × (seat.new.me.0 ≡ called seat.old.me.0 history (entry ask r))
+            × IsOlderPart seat.old.me.0.seen history × (seat.old.me.0.drawn ≤ length history) × (length history < self.now.limit)) }
+        ensures legal { OnOk result (IsLegal T.legal seat.new.me.0) }
+        ensures sound { OnOk result (Sound seat.new.me.0 × (length seat.new.me.0.mine ≤ length seat.new.me.0.seen)) }
+        ensures err { OnErr result ((seat.new.me.0 ≡ found_at seat.old.me.0 seat.new.me.0.drawn) × (self.now.limit ≤ seat.new.me.0.drawn) × (seat.old.me.0.drawn ≤ seat.new.me.0.drawn)) }
+    {
+        let ticket = self.draw(rt, seat).ok_or(Spent)?;
+        self.wait_turn(rt, seat, ticket);
+        let mut value = self.take_out(seat);
+        let said = Snapshot::of(&ask);
+        let reply = value.act(ask);
+        self.put_back(seat, value);
+        self.finish::<Brand>(seat, &said, &reply);
+        Ok(reply)
+    }
+
+    /// The last turn, which is no call: takes the value out for good, and answers the number of calls.
+    pub fn take_last<R: Wait>(&self, rt: &R, mut seat: Place<T>) -> (T, u64)
+        requires own { (seat.table_id ≡ self.now.table.shared.table_id) × IsIdle seat.me.0 × (seat.me.1 ≡ []) }
+        ensures terms { seat.me.0.terms ≡ Some (T.terms result.0) }
+        ensures history { (history : List Entry) × T.stands result.0 seat.me.0.base history × T.legal (T.terms result.0) seat.me.0.base history
+            × IsOlderPart seat.me.0.seen history × (result.1 ≡ length history) × StandIn history seat.me.0.mine }
+        ensures order { InOrder seat.me.0.mine }
+    {
+        let calls = self.draw_last(rt, &mut seat);
+        self.wait_turn(rt, &mut seat, calls);
+        let value = self.take_out(&mut seat);
+        (value, calls)
+    }
+
+    /// Cuts a seat in two: the new one has seen the same and made no call.
+    pub fn split(&self, seat: &mut Place<T>) -> Place<T>
+        requires own { (seat.old.table_id ≡ self.now.table.shared.table_id) × IsIdle seat.old.me.0 × (seat.old.me.1 ≡ []) }
+        ensures same { (seat.new.table_id ≡ seat.old.table_id) × (seat.new.me ≡ seat.old.me) }
+        ensures new { (result.table_id ≡ seat.old.table_id) × (result.me ≡ (beside seat.old.me.0, [])) }
+    {
+        self.table.shared.split_seat::<Cut>(seat)
+    }
+
+    /// Makes one seat of two. The look after it shows what the rule says of both.
+    pub fn join(&self, seat: &mut Place<T>, other: Place<T>)
+        requires own { (seat.old.table_id ≡ self.now.table.shared.table_id) × IsIdle seat.old.me.0 × (seat.old.me.1 ≡ []) }
+        requires other { (other.table_id ≡ self.now.table.shared.table_id) × IsIdle other.me.0 × (other.me.1 ≡ []) }
+        ensures own { (seat.new.table_id ≡ seat.old.table_id) × (seat.new.me ≡ (joined seat.old.me.0 other.me.0, [])) }
+        ensures sound { Sound seat.new.me.0 × (length seat.new.me.0.mine ≤ seat.new.me.0.limit + 1) }
+    {
+        self.table.shared.join_seat::<Glue>(seat, other);
+        self.table.shared.load::<Look>(seat, DONE);
+    }
+}

@@ -1,0 +1,23 @@
+//! Many threads, one value, one history.
+//!
+//! A [`Turnstile`] stands in front of a value that answers one ask at a time. Callers draw tickets and
+//! take their turns at it, so the replies of all of them are those of one legal history, in which each
+//! call stands once. A caller that waits sleeps.
+//!
+//! Each caller has a [`Pass`]. What two callers know of each other's calls is what their passes have
+//! seen: an order in time between passes that were never split from one another or joined is not told,
+//! nor is it that a turn comes.
+#![tactic(auto)]
+
+mod board;
+mod pass;
+mod rule;
+#[cfg(test)]
+mod tests;
+mod turnstile;
+mod view;
+
+pub use pass::Pass;
+pub use rule::Founded;
+pub use turnstile::{Shut, Spent, Turnstile};
+pub use view::Call;

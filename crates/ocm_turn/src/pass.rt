@@ -1,0 +1,43 @@
+ghost use Rattle.std.specs.Prelude.{◌≡◌, ◌≤◌, ◌^◌, length, true, is_some};
+
+use crate::board::Place;
+use ocm_entry::Object;
+use std::marker::Model;
+
+/// A caller's token for one turnstile. It counts its own calls, and a contract sees what it knows:
+/// the base and the terms of the value behind the turnstile, the history up to its last call, its own
+/// calls, and the greatest ticket word that a draw has found.
+#[derive(Drop)]
+pub struct Pass<T: Object> {
+    pub(crate) seat: Place<T>,
+    pub(crate) calls: u64,
+    ghost named: { is_some seat.me.0.terms ≡ true },
+}
+
+impl<T: Object> Model for Pass<T> {
+    ghost use Rattle.std.specs.Prelude.{◌≡◌, ◌≤◌, ◌^◌, length, [], true, is_some};
+    ghost use Rattle.ocm_turn.specs.Passes.{Known, the_some};
+    ghost use Rattle.ocm_turn.specs.Rule.{IsIdle};
+
+    ghost Value = { Known T.Terms };
+
+    ghost view = { λ p. record {
+      turnstile = p.seat.table_id;
+      base = p.seat.me.0.base;
+      terms = the_some p.seat.me.0.terms p.named;
+      seen = p.seat.me.0.seen;
+      mine = p.seat.me.0.mine;
+      drawn = p.seat.me.0.drawn;
+    } };
+
+    ghost invariant = { λ p. IsIdle p.seat.me.0 × (p.seat.me.1 ≡ []) × (length p.seat.me.0.mine ≡ p.calls) × (p.seat.me.0.limit ≤ 2 ^ 63) };
+}
+
+impl<T: Object> Pass<T> {
+    /// How many calls were made with this pass, and with those that were joined to it.
+    pub fn calls(&self) -> u64
+        ensures { result ≡ length self.now.mine }
+    {
+        self.calls
+    }
+}

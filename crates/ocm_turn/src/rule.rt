@@ -1,0 +1,100 @@
+ghost use Rattle.std.specs.Prelude.{List, ⊤};
+ghost use Rattle.ocm_entry.specs.declared.asks.Ask.TheVariants as asks;
+ghost use Rattle.ocm_entry.specs.declared.replies.Reply.TheVariants as replies;
+ghost use Rattle.ocm_entry.specs.declared.entries.Entry.{Entry};
+ghost use Rattle.ocm_turn.specs.Calls.{entry};
+ghost use Rattle.ocm_turn.specs.Rule.{Holds, newcomer, spent_view};
+ghost use Rattle.ocm_turn.specs.Steps.{names, draws, looks, finishes, beside, joined};
+
+use crate::view::View;
+use atomic_table::{Join, Play, Split, TableRule};
+use ocm_entry::Object;
+use std::marker::{Brand, PhantomData};
+use std::snapshot::Snapshot;
+
+/// The rule of the table behind a turnstile.
+pub struct Law<T> {
+    of: PhantomData<T>,
+}
+
+/// What the table is told when it is made: the limit, and the value for contracts alone.
+#[derive(Drop)]
+pub struct Start<T> {
+    pub limit: u64,
+    pub value: Snapshot<T>,
+}
+
+impl<T: Object> TableRule<Option<T>, View<T::Terms>, Start<T>> for Law<T> {
+    ghost holds = { λ key. Holds T.terms T.stands T.legal key.limit key.value.value };
+
+    ghost first = { λ key. newcomer key.limit (T.terms key.value.value) };
+}
+
+/// What is known of the base for which the value stands at the start. Nobody has the base when the
+/// program runs: whoever makes a turnstile picks this.
+pub trait Founded {
+    ghost known: { List Entry → Type 0 };
+}
+
+impl Founded for Brand {
+    ghost known = { λ _. ⊤ };
+}
+
+/// The step that names the base.
+pub struct Name<J> {
+    of: PhantomData<J>,
+}
+
+impl<T, G, J: Founded> Play<Option<T>, View<G>> for Name<J> {
+    ghost then = { names J.known };
+}
+
+/// A try to draw a ticket.
+pub struct Draw;
+
+impl<T, G> Play<Option<T>, View<G>> for Draw {
+    ghost then = { draws };
+}
+
+/// A look at the number of calls done.
+pub struct Look;
+
+impl<T: Object> Play<Option<T>, View<T::Terms>> for Look {
+    ghost then = { looks T.terms T.stands T.legal };
+}
+
+/// The entry that a finish adds to the history. Each finish picks it.
+pub trait Told {
+    ghost told: { Entry };
+}
+
+impl Told for Brand {
+    ghost told = { entry asks.Due replies.Done };
+}
+
+/// The end of a call.
+pub struct Finish<E> {
+    of: PhantomData<E>,
+}
+
+impl<T, G, E: Told> Play<Option<T>, View<G>> for Finish<E> {
+    ghost then = { finishes E.told };
+}
+
+/// A seat cut in two.
+pub struct Cut;
+
+impl<G> Split<View<G>> for Cut {
+    ghost left = { λ v. v };
+
+    ghost right = { beside };
+}
+
+/// Two seats in one.
+pub struct Glue;
+
+impl<G> Join<View<G>> for Glue {
+    ghost both = { joined };
+
+    ghost spent = { spent_view };
+}

@@ -1,0 +1,33 @@
+ghost use Rattle.std.specs.Prelude.{◌≡◌};
+
+use ocm_entry::Entry;
+use std::collections::LinkedList;
+
+/// A call with its place in the history: the number of the entries before it. No value of it is made;
+/// contracts speak of it.
+pub struct Call {
+    pub place: u64,
+    pub entry: Entry,
+}
+
+/// Whether a seat's base is named, and whether the seat was joined to another.
+pub enum Stage {
+    New,
+    Named,
+    Spent,
+}
+
+/// What a seat knows, with the terms of the value behind the turnstile. No value of it is made.
+pub struct View<G> {
+    pub stage: Stage,
+    pub limit: u64,
+    pub terms: Option<G>,
+    pub base: LinkedList<Entry>,
+    pub seen: LinkedList<Entry>,
+    /// An older part of `seen` that was another seat's `seen`, after a join.
+    pub heard: LinkedList<Entry>,
+    pub mine: LinkedList<Call>,
+    pub ticket: Option<u64>,
+    pub turn: bool,
+    pub drawn: u64,
+}
