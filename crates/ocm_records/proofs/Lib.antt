@@ -1,0 +1,6 @@
+pub mod DocumentsBack
+pub mod EachNote
+pub mod NoticesBack
+pub mod ReadBack
+pub mod Words
+pub mod WrittenLaws

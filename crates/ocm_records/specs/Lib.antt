@@ -1,0 +1,10 @@
+pub mod Commands
+pub mod Documents
+pub mod Fields
+pub mod Kinds
+pub mod Notices
+pub mod Offers
+pub mod Readings
+pub mod Rows
+pub mod Sound
+pub mod Written

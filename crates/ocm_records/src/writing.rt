@@ -1,0 +1,136 @@
+//! JSON values of what several records have, and a JSON value as bytes.
+
+ghost use Rattle.std.specs.Prelude.{◌≡◌, ◌≤◌, ◌++◌, map, option_map, Some, IfOk, OnOk, true, false};
+ghost use Rattle.serde_json.specs.Data.{string, put as with_member};
+ghost use Rattle.serde_json.specs.Data.{depth};
+ghost use Rattle.serde_json.specs.View.{view, members_view};
+ghost use Rattle.serde_json.specs.Written.{compact_text, has_float};
+ghost use Rattle.ocm_json.specs.Json.{json_of};
+ghost use Rattle.ocm_types.specs.Rights.{is_any, word_if};
+ghost use Rattle.ocm_types.specs.Texts.{has_length};
+ghost use Rattle.ocm_records.specs.Kinds.{most_bytes};
+ghost use Rattle.ocm_records.specs.Sound.{ReadsAsItself, AddressIf, PermsIf};
+ghost use Rattle.ocm_records.specs.Written as written;
+
+use ocm_base::{Bytes, NoMemory};
+use ocm_types::laws::address_reads_its_text;
+use ocm_types::{Address, Perms};
+use serde_json::{Map, Value, push, put};
+use std::alloc::{AllocError, Global};
+
+/// The text of a JSON value, with no space in it.
+pub fn bytes_of(alloc: Global, value: &Value) -> Result<Bytes, NoMemory>
+    ensures text { IfOk result (λ b. has_float (view value.now) ≡ false → b ≡ compact_text (view value.now)) }
+    ensures reads_back { IfOk result (λ b. depth (view value.now) ≤ 127 → json_of b ≡ Some (view value.now)) }
+{
+    let text = value.to_vec(alloc)?;
+    Ok(Bytes::from_vec(text))
+}
+
+/// Adds a word, where its right is held.
+fn push_word(
+    alloc: Global,
+    words: &mut Vec<Value>,
+    held: bool,
+    word: &str,
+) -> Result<(), AllocError>
+    ensures { OnOk result (map view words.new.items
+        ≡ map view words.old.items ++ map string (word_if held word.now)) }
+{
+    if held {
+        let value = Value::try_from_str(alloc, word)?;
+        push(words, value)?;
+    }
+    Ok(())
+}
+
+/// Permissions as the list of their words.
+pub fn perms_value(alloc: Global, perms: Perms) -> Result<Value, NoMemory>
+    ensures value { IfOk result (λ v. view v ≡ written.perms_data perms) }
+    ensures sound { IfOk result (λ _. is_any perms ≡ true) }
+{
+    let rights = perms.rights();
+    let mut words = Vec::new(alloc);
+    push_word(alloc, &mut words, rights.read, "read")?;
+    push_word(alloc, &mut words, rights.write, "write")?;
+    push_word(alloc, &mut words, rights.share, "share")?;
+    Ok(Value::Array(words))
+}
+
+/// A text in memory has few enough bytes for a record.
+fn text_fits(text: &str)
+    ensures { has_length 0 most_bytes text.now ≡ true }
+{
+    let _length = text.len();
+}
+
+/// An address as its text.
+pub fn address_value(alloc: Global, address: &Address) -> Result<Value, NoMemory>
+    ensures value { IfOk result (λ v. view v ≡ written.address_data address.now) }
+    ensures sound { IfOk result (λ _. ReadsAsItself address.now) }
+{
+    address_reads_its_text(address);
+    let text = address.text(alloc)?;
+    text_fits(text.as_str());
+    let value = Value::try_from_str(alloc, text.as_str())?;
+    Ok(value)
+}
+
+/// Adds a text as a member.
+pub fn put_text(
+    members: &mut Map<String, Value>,
+    alloc: Global,
+    key: &str,
+    text: &str,
+) -> Result<(), NoMemory>
+    ensures { OnOk result (members_view members.new.entries
+        ≡ with_member key.now (string text.now) (members_view members.old.entries)) }
+{
+    let value = Value::try_from_str(alloc, text)?;
+    put(members, alloc, key, value)?;
+    Ok(())
+}
+
+/// Adds a member, where there is a value.
+pub fn put_if(
+    members: &mut Map<String, Value>,
+    alloc: Global,
+    key: &str,
+    value: Option<Value>,
+) -> Result<(), NoMemory>
+    ensures { OnOk result (members_view members.new.entries
+        ≡ written.put_if key.now (option_map view value) (members_view members.old.entries)) }
+{
+    if let Some(value) = value {
+        put(members, alloc, key, value)?;
+    }
+    Ok(())
+}
+
+/// An address, where there is one.
+pub fn address_if(alloc: Global, address: &Option<Address>) -> Result<Option<Value>, NoMemory>
+    ensures value { IfOk result (λ o. option_map view o ≡ written.data_if written.address_data address.now) }
+    ensures sound { IfOk result (λ _. AddressIf address.now) }
+{
+    match address {
+        Some(address) => {
+            let value = address_value(alloc, address)?;
+            Ok(Some(value))
+        }
+        None => Ok(None),
+    }
+}
+
+/// Permissions, where there are any.
+pub fn perms_if(alloc: Global, perms: Option<Perms>) -> Result<Option<Value>, NoMemory>
+    ensures value { IfOk result (λ o. option_map view o ≡ written.data_if written.perms_data perms) }
+    ensures sound { IfOk result (λ _. PermsIf perms) }
+{
+    match perms {
+        Some(perms) => {
+            let value = perms_value(alloc, perms)?;
+            Ok(Some(value))
+        }
+        None => Ok(None),
+    }
+}
