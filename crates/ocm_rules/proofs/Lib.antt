@@ -15,3 +15,4 @@ pub mod RequestRows
 pub mod States
 pub mod Endings
 pub mod Steps
+pub mod Once

@@ -41,11 +41,11 @@ no_choice true = refl
 no_choice false = refl
 
 -- a test of nodes by their places alone
-abbrev by_place : (Place → Bool) → Node → Bool
+abbrev pub by_place : (Place → Bool) → Node → Bool
 by_place keep n = keep n.place
 
 -- what stands at a place among the nodes that pass a test of their places
-node_at-filter : (keep : Place → Bool) (ns : List Node) (place : Place) → node_at (filter (by_place keep) ns) place ≡ (if keep place then node_at ns place else None)
+pub node_at-filter : (keep : Place → Bool) (ns : List Node) (place : Place) → node_at (filter (by_place keep) ns) place ≡ (if keep place then node_at ns place else None)
 node_at-filter keep [] place = no_choice (keep place)
 node_at-filter keep (n ∷ ns) place = by_tests (node_at-filter keep ns place) (keep n.place) refl (same_place n.place place) refl
   where
@@ -75,13 +75,13 @@ node_at-append (n ∷ xs) ys place = by_test (node_at-append xs ys place) (same_
 -- ---- nodes that are carried
 
 -- what is copied, node by node
-copies-one : (from to : Place) (n : Node) (ns : List Node) (b : Bool) → is_at_or_above from n.place ≡ b
+pub copies-one : (from to : Place) (n : Node) (ns : List Node) (b : Bool) → is_at_or_above from n.place ≡ b
     → copies from to (n ∷ ns) ≡ (if b then (let moved_node : Node = record { place = moved from to n.place; standing = n.standing } in moved_node) ∷ copies from to ns else copies from to ns)
 copies-one from to n ns true h = rw h refl
 copies-one from to n ns false h = rw h refl
 
 -- what stands at a place among the copies
-node_at-copies : (from to : Place) (ns : List Node) (place : Place) → node_at (copies from to ns) place ≡ (if is_at_or_above to place then node_at ns (moved to from place) else None)
+pub node_at-copies : (from to : Place) (ns : List Node) (place : Place) → node_at (copies from to ns) place ≡ (if is_at_or_above to place then node_at ns (moved to from place) else None)
 node_at-copies from to [] place = no_choice (is_at_or_above to place)
 node_at-copies from to (n ∷ ns) place =
     ap (λ all. node_at all place) (copies-one from to n ns (is_at_or_above from n.place) refl)

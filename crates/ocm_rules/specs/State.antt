@@ -1,4 +1,4 @@
-use Rattle.std.specs.Prelude.{◌≡◌, ℕ, ◌+◌, List, [], ◌∷◌, ◌++◌, map, nat_eq, nat_le, Bool, true, false, not, ◌&&◌, ◌||◌, if◌then◌else◌, Option, Some, None, is_some, unwrap_or, option_map}
+use Rattle.std.specs.Prelude.{◌≡◌, ℕ, ◌+◌, List, [], ◌∷◌, ◌++◌, map, nat_eq, nat_le, Bool, true, false, not, ◌&&◌, ◌||◌, if◌then◌else◌, Option, Some, None, is_some, unwrap_or, option_map, ⊤}
 use Rattle.std.specs.Option.{option_or, option_map_or}
 use Rattle.ocm_types.specs.declared.letters.Letter.{Letter}
 use Rattle.ocm_types.specs.declared.letters.Notice.TheVariants as notices
@@ -71,6 +71,11 @@ row_goes_on moment row = not row.closed && not (option_map_or (λ end. nat_le en
 abbrev pub node_at : List Node → Place → Option Standing
 node_at [] place = None
 node_at (node ∷ nodes) place = if same_place node.place place then Some node.standing else node_at nodes place
+
+-- each place stands once among these nodes
+abbrev pub EachOnce : List Node → Type 0
+EachOnce [] = ⊤
+EachOnce (node ∷ nodes) = (node_at nodes node.place ≡ None) × EachOnce nodes
 
 -- a request without its state
 abbrev pub asked_in : Request → Reshare

@@ -15,7 +15,7 @@ ghost use Rattle.ocm_rules.specs.History.{IsAnswered, IsLegal, answer, kept};
 ghost use Rattle.ocm_rules.specs.Messages.{is_away, out, view_of};
 ghost use Rattle.ocm_rules.specs.Shares.{effective, is_live, named};
 ghost use Rattle.ocm_rules.specs.Views.{effective_with, is_live_without};
-ghost use Rattle.ocm_rules.specs.State.{after, node_at, state_of, view_in};
+ghost use Rattle.ocm_rules.specs.State.{EachOnce, after, node_at, state_of, view_in};
 
 /// What is kept of a history is kept of it again, whole.
 pub fn kept_stays_kept()
@@ -74,4 +74,9 @@ pub fn ended_shares_are_no_longer_live()
 pub fn limited_rights_are_those_after_the_limit()
     ensures { (host : List ℕ) (before : List Entry) (key : List ℕ) (limited : ℕ) (perms : Rights) (reply : Reply) (i : ℕ)
         → effective_with (view_of host before) limited perms i ≡ effective host (record { ask = Local key (Limit limited perms); reply = reply } ∷ before) i }
+{}
+
+/// Each place stands once among the nodes.
+pub fn each_place_stands_once()
+    ensures { (host : List ℕ) (g : List Entry) → EachOnce (nodes host g) }
 {}

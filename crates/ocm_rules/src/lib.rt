@@ -8,6 +8,7 @@ pub mod file_cases;
 pub mod history_cases;
 pub mod laws;
 pub mod limit_cases;
+pub mod request_cases;
 mod rows;
 pub mod step_laws;
 
