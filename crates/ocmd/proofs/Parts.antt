@@ -1,5 +1,5 @@
-use Rattle.std.proofs.Common.{◌≡◌, ◌≤◌, ◌⊎◌, List, ◌++◌, drop, take, length, ℕ, refl}
-use Rattle.std.specs.Prelude.{Option, Err}
+use Rattle.std.proofs.Common.{◌≡◌, ◌≢◌, ◌≤◌, ◌⊎◌, List, ◌++◌, drop, take, length, ℕ, refl, sym, subst}
+use Rattle.std.specs.Prelude.{Option, Result, Ok, Err}
 use Rattle.std.proofs.lemmas.List.{take-append-drop}
 use mathlib.Core.Logic.{inl, inr}
 use Rattle.ocm_base.specs.Outside.{AppendsPart}
@@ -9,6 +9,13 @@ use Rattle.ocmd.specs.declared.ends.End.TheVariants as whole
 use Rattle.ocmd.specs.declared.words.Command.TheVariants as commands
 use Rattle.ocmd.specs.declared.ends.Fault.TheVariants as faults
 use Rattle.ocmd.specs.Commands.{IsStatus, WritesPart, bad_line}
+use Rattle.ocm_records.specs.Rows.{Gives}
+use Rattle.ocm_records.specs.declared.faults.Field.{Field}
+use Rattle.ocm_records.specs.declared.faults.RecordFault.{RecordFault}
+use Rattle.ocm_records.specs.declared.faults.RecordFault.TheVariants as records
+use Rattle.ocmd.specs.declared.ends.End.{End}
+use Rattle.ocmd.specs.declared.words.Kind.{Kind}
+use Rattle.ocmd.specs.Checks.{Checks, Tells}
 use Rattle.ocmd.specs.Words.{most_bytes}
 
 -- a front of the line that names a bad line is a front of what the command writes
@@ -20,3 +27,19 @@ named-part bytes number old new le bad part =
 pub IsStatus-usage : (n : ℕ) → (n ≡ 1) ⊎ (n ≡ 4) → IsStatus n
 IsStatus-usage n (inl one) = inl one
 IsStatus-usage n (inr four) = inr (Err faults.WriteFault, four)
+
+-- what is told of the record that was read is told of the one that the bytes are
+pub told-given : (read given : Result (List ℕ) RecordFault) (end : End) (text : List ℕ) → Gives (λ t. t) read given → read ≢ Err records.NoMemory → Tells read end text → Tells given end text
+told-given (Ok form) given end text is known told = subst (λ r. Tells r end text) (sym is) told
+told-given (Err records.NotJson) given end text is known told = subst (λ r. Tells r end text) (sym is) told
+told-given (Err records.NotObject) given end text is known told = subst (λ r. Tells r end text) (sym is) told
+told-given (Err (records.Missing field)) given end text is known told = subst (λ r. Tells r end text) (sym is) told
+told-given (Err (records.Kind field)) given end text is known told = subst (λ r. Tells r end text) (sym is) told
+told-given (Err (records.Value field)) given end text is known told = subst (λ r. Tells r end text) (sym is) told
+told-given (Err (records.Unsupported field)) given end text is known told = subst (λ r. Tells r end text) (sym is) told
+told-given (Err records.NoMemory) given end text is known told = absurd (known refl)
+
+-- a front of what is told of a record is a front of what the command writes
+pub checked-part : (kind : Kind) (bytes : List ℕ) (old new : Option (List ℕ)) (end : End) (text : List ℕ) → length bytes ≤ most_bytes (commands.Check kind) → Checks kind bytes end text → AppendsPart old new text → WritesPart (commands.Check kind) bytes old new
+checked-part kind bytes old new end text le checks part =
+    inr (le, end, take part.0 text, drop part.0 text, part.2, subst (λ t. Checks kind bytes end t) (sym (take-append-drop part.0 text)) checks)

@@ -1,12 +1,42 @@
 ghost use Rattle.std.specs.Prelude.{◌≡◌, ◌↔◌, Some, List, map, IsTrue};
 ghost use Rattle.std.specs.String.{string_bytes};
-ghost use Rattle.ocmd.specs.Words.{most_bytes, words_of};
+ghost use Rattle.ocmd.specs.Words.{kind_word, most_bytes, words_of};
+
+/// A record that `check` reads.
+#[derive(Clone, Copy, Debug, PartialEq, Eq)]
+pub enum Kind {
+    /// `discovery`: what a server says of itself.
+    Discovery,
+    /// `offer`: a share is offered.
+    Offer,
+    /// `notice`: a notification.
+    Notice,
+    /// `error`: why a server refused.
+    Error,
+}
+
+impl Kind {
+    /// The kind of record that this word names, none where it names none.
+    pub fn read(word: &str) -> Option<Kind>
+        ensures { (kind : Kind) → (result ≡ Some kind) ↔ (word.now ≡ kind_word kind) }
+    {
+        match word {
+            "discovery" => Some(Kind::Discovery),
+            "offer" => Some(Kind::Offer),
+            "notice" => Some(Kind::Notice),
+            "error" => Some(Kind::Error),
+            _ => None,
+        }
+    }
+}
 
 /// A command that works on standard input.
 #[derive(Clone, Copy, Debug, PartialEq, Eq)]
 pub enum Command {
     /// `replay`: runs a script.
     Replay,
+    /// `check KIND`: reads a record and writes it in its one form.
+    Check(Kind),
 }
 
 impl Command {
@@ -16,6 +46,10 @@ impl Command {
     {
         match words {
             [word] if is_word(word.as_str(), "replay") => Some(Command::Replay),
+            [word, kind] if is_word(word.as_str(), "check") => {
+                let kind = Kind::read(kind.as_str())?;
+                Some(Command::Check(kind))
+            }
             _ => None,
         }
     }
@@ -26,6 +60,7 @@ impl Command {
     {
         match self {
             Command::Replay => 16_777_216,
+            Command::Check(_) => 65_536,
         }
     }
 }

@@ -1,0 +1,4 @@
+pub mod Digits
+pub mod Heads
+pub mod Looks
+pub mod Values

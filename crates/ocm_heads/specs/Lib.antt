@@ -1,0 +1,4 @@
+pub mod ChunkLines
+pub mod Endings
+pub mod Heads
+pub mod Lengths

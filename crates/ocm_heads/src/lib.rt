@@ -1,0 +1,18 @@
+//! Heads of HTTP/1.1 messages that stand alone (RFC 9112): where a head ends, what it says, and how long it makes
+//! the body. It reads no stream: the bytes of a head, or of a chunk line, are given to it.
+#![tactic(auto)]
+
+mod chunk_lines;
+mod closings;
+mod endings;
+mod fields;
+mod lengths;
+mod replies;
+mod requests;
+
+pub use chunk_lines::{ChunkLine, read_chunk_line};
+pub use endings::{Found, Look, Stand, blanks};
+pub use fields::{Field, Head};
+pub use lengths::{Length, LengthFault, length_of_reply, length_of_request};
+pub use replies::read_reply;
+pub use requests::read_request;

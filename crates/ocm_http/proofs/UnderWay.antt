@@ -1,0 +1,204 @@
+-- Steps of reading a message from a source.
+use Rattle.std.proofs.Common.{◌≡◌, ℕ, ◌+◌, ◌-◌, ◌≤◌, List, [], ◌++◌, length, take, drop, Bool, true, false, Option, Some, None, Result, Ok, Err, refl, sym, ap, ◌∙◌, subst, arith, append_assoc, append-nil, length-append}
+use Rattle.std.specs.Prelude.{IfSome, IfOk}
+use Rattle.std.proofs.lemmas.List.{take-append-drop, length-take-le, drop-take, drop-drop, length-drop}
+use Rattle.ocm_base.specs.Outside.{Takes}
+use Rattle.ocm_base.proofs.Pieces.{Takes-twice}
+use Rattle.ocm_heads.specs.Endings.{of_head}
+use Rattle.ocm_http.specs.Places.{past}
+use Rattle.ocm_http.specs.Frames.{Frame, Given, Refused, Over, IsFrame}
+use Rattle.ocm_http.specs.Stages.{Goes, Makes, Faults, Ends, Rest}
+use Rattle.ocm_http.specs.Readers.{ReadingOf, MessageOf, Under, taken_at_most}
+use Rattle.ocm_http.specs.declared.messages.Kind.{Kind}
+use Rattle.ocm_http.specs.declared.messages.Message.{Message}
+use Rattle.ocm_http.specs.declared.messages.FrameFault.{FrameFault}
+use Rattle.ocm_http.specs.declared.messages.FrameFault.TheVariants.{NoMemory}
+use Rattle.ocm_http.specs.declared.stages.Rules.{Rules}
+use Rattle.ocm_http.specs.declared.stages.Stage.{Stage}
+use Rattle.ocm_http.specs.declared.stages.Stage.TheVariants as stage
+use Rattle.ocm_http.proofs.Pieces.{past_twice}
+
+-- ---- the window
+
+pub skipped : (bytes : List ℕ) (from to n : ℕ) → n ≤ to - from → take (to - (from + n)) (drop (from + n) bytes) ≡ drop n (take (to - from) (drop from bytes))
+skipped bytes from to n h =
+    let size : to - from ≡ n + (to - (from + n)) = omega arith in
+    ap (take (to - (from + n))) (sym (drop-drop n from bytes))
+    ∙ sym (drop-take n (to - (from + n)) (drop from bytes))
+    ∙ ap (λ k. drop n (take k (drop from bytes))) (sym size)
+
+pub window_size : (bytes : List ℕ) (from to : ℕ) → from ≤ to → to ≤ length bytes → length (take (to - from) (drop from bytes)) ≡ to - from
+window_size bytes from to h k =
+    let behind : length (drop from bytes) ≡ length bytes - from = length-drop from bytes in
+    length-take-le (to - from) (drop from bytes) (omega arith)
+
+-- ---- a message under way
+
+takes_none : (before : Option (List ℕ)) → Takes before before []
+takes_none None = refl
+takes_none (Some rest) = refl
+
+pub under_start : (rules : Rules) (before : Option (List ℕ)) (held : List ℕ) → Under rules before before held held (stage.Head [] of_head) 0
+under_start rules before held = record {
+  got = [];
+  gone = [];
+  taken = takes_none before;
+  split = append-nil held;
+  stands = (refl, refl, refl);
+  counts = omega arith;
+  spent_is = refl;
+  rest = λ more ended frame r. subst (λ b. IsFrame rules.kind rules.max rules.place (b ++ more) ended frame) (sym (append-nil held)) r;
+}
+
+pub under_filled : (rules : Rules) (before mid after : Option (List ℕ)) (held left next : List ℕ) (at_stage : Stage) (spent : ℕ) (bytes : List ℕ)
+    → Under rules before mid held left at_stage spent → Takes mid after bytes → next ≡ left ++ bytes → Under rules before after held next at_stage spent
+under_filled rules before mid after held left next at_stage spent bytes u takes more_left =
+    let joined : held ++ (u.got ++ bytes) ≡ (held ++ u.got) ++ bytes = sym (append_assoc held u.got bytes) in
+    record {
+      got = u.got ++ bytes;
+      gone = u.gone;
+      taken = Takes-twice before mid after u.got bytes u.taken takes;
+      split = joined ∙ (ap (λ l. l ++ bytes) u.split ∙ (append_assoc u.gone left bytes ∙ ap (λ l. u.gone ++ l) (sym more_left)));
+      stands = u.stands;
+      counts = u.counts;
+      spent_is = u.spent_is;
+      rest = λ more ended frame r.
+          let front : next ++ more ≡ left ++ (bytes ++ more) = ap (λ l. l ++ more) more_left ∙ append_assoc left bytes more in
+          let behind : (held ++ u.got) ++ (bytes ++ more) ≡ (held ++ (u.got ++ bytes)) ++ more = sym (append_assoc (held ++ u.got) bytes more) ∙ ap (λ l. l ++ more) (sym joined) in
+          subst (λ b. IsFrame rules.kind rules.max rules.place b ended frame) behind
+          (u.rest (bytes ++ more) ended frame (subst (λ b. Rest rules at_stage b ended frame) front r));
+    }
+
+parted : (held got gone left : List ℕ) (n : ℕ) → held ++ got ≡ gone ++ left → held ++ got ≡ (gone ++ take n left) ++ drop n left
+parted held got gone left n h = h ∙ (ap (λ l. gone ++ l) (sym (take-append-drop n left)) ∙ sym (append_assoc gone (take n left) (drop n left)))
+
+gone_size : (gone left : List ℕ) (n : ℕ) → n ≤ length left → length (gone ++ take n left) ≡ length gone + n
+gone_size gone left n h = length-append gone (take n left) ∙ ap (λ k. length gone + k) (length-take-le n left h)
+
+gone_count : (gone left : List ℕ) (n spent : ℕ) → n ≤ length left → spent ≡ past 0 (length gone) → past spent n ≡ past 0 (length (gone ++ take n left))
+gone_count gone left n spent h s = ap (λ k. past k n) s ∙ (past_twice 0 (length gone) n ∙ ap (past 0) (sym (gone_size gone left n h)))
+
+pub under_fed : (rules : Rules) (before after : Option (List ℕ)) (held left : List ℕ) (at_stage next : Stage) (spent n : ℕ)
+    → Under rules before after held left at_stage spent → Goes rules at_stage next left n → Under rules before after held (drop n left) next (past spent n)
+under_fed rules before after held left at_stage next spent n u goes =
+    let size : length (u.gone ++ take n left) ≡ length u.gone + n = gone_size u.gone left n goes.within in
+    let counts = u.counts in
+    let spends = goes.spends in
+    record {
+      got = u.got;
+      gone = u.gone ++ take n left;
+      taken = u.taken;
+      split = parted held u.got u.gone left n u.split;
+      stands = goes.stands;
+      counts = omega arith;
+      spent_is = gone_count u.gone left n spent goes.within u.spent_is;
+      rest = λ more ended frame r. u.rest more ended frame (goes.rest more ended frame r);
+    }
+
+-- what a frame is, with nothing behind
+whole_frame : (rules : Rules) (before after : Option (List ℕ)) (held left : List ℕ) (at_stage : Stage) (spent : ℕ) (ended : Bool) (frame : Frame)
+    → (u : Under rules before after held left at_stage spent) → Rest rules at_stage (left ++ []) ended frame → IsFrame rules.kind rules.max rules.place (held ++ u.got) ended frame
+whole_frame rules before after held left at_stage spent ended frame u r =
+    subst (λ b. IsFrame rules.kind rules.max rules.place b ended frame) (append-nil (held ++ u.got)) (u.rest [] ended frame r)
+
+never : (P : Type 0) → (false ≡ true) → P
+never P h = cc
+
+pub under_given : (rules : Rules) (before after : Option (List ℕ)) (held left : List ℕ) (at_stage : Stage) (spent n : ℕ) (m : Message)
+    → Under rules before after held left at_stage spent → Makes rules at_stage m left n
+    → MessageOf rules.kind rules.max rules.place held before after (Given m (drop n left)) (drop n left) 0 (past spent n)
+under_given rules before after held left at_stage spent n m u makes = record {
+  ended = false;
+  reading = record {
+    got = u.got;
+    taken = u.taken;
+    told = λ h. never (IfSome after (λ rest. rest ≡ [])) h;
+    is_frame = whole_frame rules before after held left at_stage spent false (Given m (drop n left)) u
+        (subst (λ b. Rest rules at_stage (left ++ []) false (Given m b)) (append-nil (drop n left)) (makes.rest [] false));
+  };
+  of_message = u.gone ++ take n left;
+  split = parted held u.got u.gone left n u.split;
+  counted = gone_count u.gone left n spent makes.within u.spent_is;
+}
+
+pub under_ended : (rules : Rules) (before after : Option (List ℕ)) (held left : List ℕ) (at_stage : Stage) (spent : ℕ) (frame : Frame)
+    → Under rules before after held left at_stage spent → left ≡ [] → IfSome after (λ rest. rest ≡ []) → Rest rules at_stage [] true frame
+    → ReadingOf rules.kind rules.max rules.place held before after true frame
+under_ended rules before after held left at_stage spent frame u none told r = record {
+  got = u.got;
+  taken = u.taken;
+  told = λ _. told;
+  is_frame = whole_frame rules before after held left at_stage spent true frame u (subst (λ b. Rest rules at_stage b true frame) (sym (append-nil left ∙ none)) r);
+}
+
+pub under_last : (rules : Rules) (before after : Option (List ℕ)) (held left : List ℕ) (at_stage : Stage) (spent : ℕ) (m : Message)
+    → Under rules before after held left at_stage spent → left ≡ [] → IfSome after (λ rest. rest ≡ []) → Rest rules at_stage [] true (Given m [])
+    → MessageOf rules.kind rules.max rules.place held before after (Given m left) left 0 spent
+under_last rules before after held left at_stage spent m u none told r = record {
+  ended = true;
+  reading = record {
+    got = u.got;
+    taken = u.taken;
+    told = λ _. told;
+    is_frame = whole_frame rules before after held left at_stage spent true (Given m left) u
+        (subst (λ b. Rest rules at_stage b true (Given m left)) (sym (append-nil left ∙ none)) (subst (λ b. Rest rules at_stage [] true (Given m b)) (sym none) r));
+  };
+  of_message = u.gone;
+  split = u.split;
+  counted = u.spent_is;
+}
+
+pub under_fault : (rules : Rules) (before after : Option (List ℕ)) (held left : List ℕ) (at_stage : Stage) (spent : ℕ) (fault : FrameFault)
+    → Under rules before after held left at_stage spent → Faults rules at_stage left fault → ((fault ≡ NoMemory) → ⊥)
+    → (ended : Bool) × ReadingOf rules.kind rules.max rules.place held before after ended (Refused fault)
+under_fault rules before after held left at_stage spent fault u faults other = (
+  false,
+  record {
+    got = u.got;
+    taken = u.taken;
+    told = λ h. never (IfSome after (λ rest. rest ≡ [])) h;
+    is_frame = whole_frame rules before after held left at_stage spent false (Refused fault) u (faults.rest other [] false);
+  },
+)
+
+pub under_taken : (rules : Rules) (before after : Option (List ℕ)) (held left : List ℕ) (at_stage : Stage) (spent : ℕ)
+    → Under rules before after held left at_stage spent → length left ≤ 4096 → (got : List ℕ) × Takes before after got × (length got ≤ taken_at_most rules.max)
+under_taken rules before after held left at_stage spent u few =
+    let size : length held + length u.got ≡ length u.gone + length left = sym (length-append held u.got) ∙ (ap length u.split ∙ length-append u.gone left) in
+    let counts = u.counts in
+    (u.got, u.taken, omega arith)
+
+-- the count of a message's bytes, past the place where it began
+pub placed : (kind : Kind) (max place : ℕ) (held : List ℕ) (before after : Option (List ℕ)) (frame : Frame) (left : List ℕ) (count : ℕ)
+    → MessageOf kind max place held before after frame left 0 count → MessageOf kind max place held before after frame left place (past place count)
+placed kind max place held before after frame left count m = record {
+  ended = m.ended;
+  reading = m.reading;
+  of_message = m.of_message;
+  split = m.split;
+  counted = ap (past place) m.counted ∙ past_of_past place (length m.of_message);
+}
+  where
+    past_of_past : (p n : ℕ) → past p (past 0 n) ≡ past p n
+    past_of_past p n = grind arith
+
+-- the same of a message, where one was given
+pub placed_some : (kind : Kind) (max place : ℕ) (held : List ℕ) (before after : Option (List ℕ)) (left : List ℕ) (count : ℕ) (read : Option Message)
+    → IfSome read (λ m. MessageOf kind max place held before after (Given m left) left 0 count) → IfSome read (λ m. MessageOf kind max place held before after (Given m left) left place (past place count))
+placed_some kind max place held before after left count None given = given
+placed_some kind max place held before after left count (Some m) given = placed kind max place held before after (Given m left) left count given
+
+-- what the end of input makes of a message, where it makes one
+pub ended_message : (rules : Rules) (before after : Option (List ℕ)) (held left : List ℕ) (at_stage : Stage) (spent : ℕ) (r : Result (Option Message) FrameFault)
+    → Under rules before after held left at_stage spent → left ≡ [] → IfSome after (λ rest. rest ≡ []) → IfOk r (Ends rules at_stage)
+    → IfOk r (λ o. IfSome o (λ m. MessageOf rules.kind rules.max rules.place held before after (Given m left) left 0 spent))
+ended_message rules before after held left at_stage spent (Ok None) u none told ends = tt
+ended_message rules before after held left at_stage spent (Ok (Some m)) u none told ends = under_last rules before after held left at_stage spent m u none told ends
+ended_message rules before after held left at_stage spent (Err f) u none told ends = tt
+
+pub ended_over : (rules : Rules) (before after : Option (List ℕ)) (held left : List ℕ) (at_stage : Stage) (spent : ℕ) (r : Result (Option Message) FrameFault)
+    → Under rules before after held left at_stage spent → left ≡ [] → IfSome after (λ rest. rest ≡ []) → IfOk r (Ends rules at_stage)
+    → IfOk r (λ o. o ≡ None → ReadingOf rules.kind rules.max rules.place held before after true Over)
+ended_over rules before after held left at_stage spent (Ok None) u none told ends = λ _. under_ended rules before after held left at_stage spent Over u none told ends
+ended_over rules before after held left at_stage spent (Ok (Some m)) u none told ends = λ h. cc
+ended_over rules before after held left at_stage spent (Err f) u none told ends = tt

@@ -1,0 +1,61 @@
+-- What a reader reads of its source.
+use Rattle.std.specs.Prelude.{◌≡◌, ℕ, ◌+◌, ◌*◌, ◌≤◌, Bool, List, [], ◌++◌, length, Option, IfSome, IsTrue}
+use Rattle.ocm_base.specs.Outside.{Takes}
+use Rattle.ocm_http.specs.Places.{past}
+use Rattle.ocm_http.specs.Frames.{Frame, IsFrame}
+use Rattle.ocm_http.specs.Stages.{Stands, Rest, budget}
+use Rattle.ocm_http.specs.declared.messages.Kind.{Kind}
+use Rattle.ocm_http.specs.declared.stages.Rules.{Rules}
+use Rattle.ocm_http.specs.declared.stages.Stage.{Stage}
+
+-- a reader: the messages that it reads, how many bytes their bodies have at most, the place of the next message, the
+-- bytes behind the last that were taken from the source, whether it answered a fault, and how many bytes of the
+-- message that ended with it are gone
+pub record ReaderState : Type 0 where
+  pub kind : Kind
+  pub max : ℕ
+  pub place : ℕ
+  pub held : List ℕ
+  pub failed : Bool
+  pub gone : ℕ
+
+-- how many bytes one message takes at most, with those behind it that are read with it
+abbrev pub taken_at_most : ℕ → ℕ
+taken_at_most max = 262 * (max + 1) + 32768
+
+-- what was held and what was then taken from the source is this, where the input has ended or not
+pub record ReadingOf (kind : Kind) (max place : ℕ) (held : List ℕ) (before after : Option (List ℕ)) (ended : Bool) (frame : Frame) : Type 0 where
+  pub got : List ℕ
+  pub taken : Takes before after got
+  pub told : IsTrue ended → IfSome after (λ rest. rest ≡ [])
+  pub is_frame : IsFrame kind max place (held ++ got) ended frame
+
+-- the same of a message, behind which these bytes are left: what was held and taken is the message's and these, and
+-- the count is that of the message's bytes past another
+pub record MessageOf (kind : Kind) (max place : ℕ) (held : List ℕ) (before after : Option (List ℕ)) (frame : Frame) (left : List ℕ) (base count : ℕ) : Type 0 where
+  pub ended : Bool
+  pub reading : ReadingOf kind max place held before after ended frame
+  pub of_message : List ℕ
+  pub split : held ++ reading.got ≡ of_message ++ left
+  pub counted : count ≡ past base (length of_message)
+
+-- the same of a reader
+abbrev pub Reads : ReaderState → Option (List ℕ) → Option (List ℕ) → Bool → Frame → Type 0
+Reads reader before after ended frame = ReadingOf reader.kind reader.max reader.place reader.held before after ended frame
+
+-- the same of a reader that gave a message and then holds these bytes, at this place
+abbrev pub ReadsMessage : ReaderState → Option (List ℕ) → Option (List ℕ) → Frame → List ℕ → ℕ → Type 0
+ReadsMessage reader before after frame left place =
+    MessageOf reader.kind reader.max reader.place reader.held before after frame left reader.place place
+
+-- a message that is being read: what was taken of the source, what of that is gone, and what the rest means
+pub record Under (rules : Rules) (before after : Option (List ℕ)) (held left : List ℕ) (stage : Stage) (spent : ℕ) : Type 0 where
+  pub got : List ℕ
+  pub gone : List ℕ
+  pub taken : Takes before after got
+  pub split : held ++ got ≡ gone ++ left
+  pub stands : Stands rules stage
+  pub counts : length gone + budget rules stage ≤ 24832 + 259 * rules.max
+  pub spent_is : spent ≡ past 0 (length gone)
+  pub rest : (more : List ℕ) (ended : Bool) (frame : Frame) → Rest rules stage (left ++ more) ended frame
+      → IsFrame rules.kind rules.max rules.place ((held ++ got) ++ more) ended frame

@@ -1,0 +1,38 @@
+ghost use Rattle.std.specs.Prelude.{◌≡◌, [], true, IfOk, IfErr};
+ghost use Rattle.ocm_http.specs.Frames as frames;
+ghost use Rattle.ocm_http.specs.Stages.{Stands, Ends, Rest};
+
+use crate::messages::{FrameFault, Message};
+use crate::stages::{Rules, Stage};
+use ocm_heads::blanks;
+
+fn is_bare(bytes: &[u8]) -> bool
+    ensures { result ≡ frames.is_bare bytes.now }
+{
+    blanks(bytes) == bytes.len()
+}
+
+/// What the end of input makes of a message that is being read: a message that ends with it, or nothing where the
+/// message had not begun, or a cut one.
+pub(crate) fn end(rules: Rules, stage: Stage) -> Result<Option<Message>, FrameFault>
+    requires { Stands rules stage }
+    ensures ended { IfOk result (Ends rules stage) }
+    ensures cut { IfErr result (λ f. f ≡ FrameFault.Cut) }
+    ensures fault { IfErr result (λ f. Rest rules stage [] true (frames.Refused f)) }
+{
+    match stage {
+        Stage::Head { text, look: _ } => {
+            if is_bare(text.as_slice()) {
+                Ok(None)
+            } else {
+                Err(FrameFault::Cut)
+            }
+        }
+        Stage::ToEnd { message, first: _ } => Ok(Some(message)),
+        Stage::Sized { .. } => Err(FrameFault::Cut),
+        Stage::Line { .. } => Err(FrameFault::Cut),
+        Stage::Data { .. } => Err(FrameFault::Cut),
+        Stage::Break { .. } => Err(FrameFault::Cut),
+        Stage::Trailers { .. } => Err(FrameFault::Cut),
+    }
+}

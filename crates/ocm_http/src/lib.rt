@@ -1,0 +1,22 @@
+//! Messages of HTTP/1.1 out of a stream that comes in any pieces, and messages written (RFC 9112).
+#![tactic(auto)]
+
+mod bodies;
+mod chunks;
+mod endings;
+mod heads;
+mod laws;
+mod messages;
+mod reader;
+mod reading;
+mod stages;
+#[cfg(test)]
+mod tests;
+mod windows;
+mod writing;
+
+pub use laws::{bytes_are_one_frame, message_is_first_of_stream, more_bytes_change_nothing};
+pub use messages::{FrameFault, Kind, Message};
+pub use ocm_heads::{Field, Head};
+pub use reader::Reader;
+pub use writing::{Fixed, write_fixed, write_reply, write_request};

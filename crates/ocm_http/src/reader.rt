@@ -1,0 +1,114 @@
+ghost use Rattle.std.specs.Prelude.{◌≡◌, ◌≤◌, [], false, true, length, is_err, IfOk, IfErr, IfSome, IsFalse, None};
+ghost use Rattle.ocm_base.specs.Outside.{Rose, Takes};
+ghost use Rattle.ocm_http.specs.Places as places;
+ghost use Rattle.ocm_http.specs.Frames.{Given, Refused, Over};
+ghost use Rattle.ocm_http.specs.Readers.{Reads, ReadsMessage, taken_at_most};
+
+use crate::messages::{FrameFault, Kind, Message};
+use crate::reading::read_message;
+use crate::stages::{Rules, past};
+use crate::windows::Window;
+use ocm_base::{NoMemory, Source};
+use std::alloc::Global;
+use std::marker::Model;
+
+/// Reads the messages of a stream, one after another, from a source that may cut it anywhere.
+#[derive(Drop)]
+pub struct Reader {
+    window: Window,
+    kind: Kind,
+    max: u64,
+    place: u64,
+    failed: bool,
+    gone: u64,
+}
+
+impl Model for Reader {
+    ghost use Rattle.std.specs.Prelude.{◌≤◌, length};
+    ghost use Rattle.ocm_http.specs.Readers.{ReaderState};
+
+    ghost Value = { ReaderState };
+
+    ghost view = { λ r. record { kind = r.kind; max = r.max; place = r.place; held = r.window; failed = r.failed; gone = r.gone } };
+}
+
+impl Reader {
+    fn new(alloc: Global, kind: Kind, max: u64) -> Result<Reader, NoMemory>
+        ensures { IfOk result (λ r. r ≡ record { kind = kind; max = max; place = 0; held = []; failed = false; gone = 0 }) }
+    {
+        let window = Window::new(alloc)?;
+        Ok(Reader {
+            window,
+            kind,
+            max,
+            place: 0,
+            failed: false,
+            gone: 0,
+        })
+    }
+
+    /// A reader of requests whose bodies have at most `max_body` bytes.
+    pub fn requests(alloc: Global, max_body: u64) -> Result<Reader, NoMemory>
+        ensures { IfOk result (λ r. r ≡ record { kind = Kind.Requests; max = max_body; place = 0; held = []; failed = false; gone = 0 }) }
+    {
+        Reader::new(alloc, Kind::Requests, max_body)
+    }
+
+    /// A reader of replies whose bodies have at most `max_body` bytes.
+    pub fn replies(alloc: Global, max_body: u64) -> Result<Reader, NoMemory>
+        ensures { IfOk result (λ r. r ≡ record { kind = Kind.Replies; max = max_body; place = 0; held = []; failed = false; gone = 0 }) }
+    {
+        Reader::new(alloc, Kind::Replies, max_body)
+    }
+
+    /// Whether a fault was answered. Then nothing more can be read.
+    pub fn has_failed(&self) -> bool
+        ensures { result ≡ self.now.failed }
+    {
+        self.failed
+    }
+
+    /// How many bytes were taken from the source and are not part of a message that was given. The number ends at
+    /// 2^64 - 1.
+    pub fn held(&self) -> u64
+        ensures { result ≡ places.past self.now.gone (length self.now.held) }
+    {
+        past(self.gone, self.window.as_slice().len())
+    }
+
+    /// The next message. None where the input has ended between messages, line ends aside. At most 4,096 bytes are
+    /// taken from the source in one read.
+    pub fn next<S: Source>(&mut self, source: &mut S) -> Result<Option<Message>, FrameFault>
+        requires { IsFalse self.old.failed }
+        ensures message { IfOk result (λ o. IfSome o (λ m. ReadsMessage self.old (S.left source.old) (S.left source.new) (Given m self.new.held) self.new.held self.new.place)) }
+        ensures over { IfOk result (λ o. o ≡ None → Reads self.old (S.left source.old) (S.left source.new) true Over) }
+        ensures fault { IfErr result (λ f. ((f ≡ FrameFault.ReadFault) → ⊥) → ((f ≡ FrameFault.NoMemory) → ⊥) → (ended : _) × Reads self.old (S.left source.old) (S.left source.new) ended (Refused f)) }
+        ensures read_fault { result ≡ Err FrameFault.ReadFault → Rose (S.faults source.old) (S.faults source.new) }
+        ensures never_falls { S.faults source.old ≤ S.faults source.new }
+        ensures taken { (got : _) × Takes (S.left source.old) (S.left source.new) got × (length got ≤ taken_at_most self.old.max) }
+        ensures few_held { length self.new.held ≤ 4096 }
+        ensures none_gone { IfOk result (λ _. self.new.gone ≡ 0) }
+        ensures failed { self.new.failed ≡ is_err result }
+        ensures same_kind { self.new.kind ≡ self.old.kind }
+        ensures same_max { self.new.max ≡ self.old.max }
+    {
+        let rules = Rules {
+            kind: self.kind,
+            max: self.max,
+            place: self.place,
+        };
+        let mut gone = 0;
+        match read_message(rules, &mut self.window, source, &mut gone) {
+            Ok(read) => {
+                self.place = self.place.saturating_add(gone);
+                self.gone = 0;
+                Ok(read)
+            }
+            Err(fault) => {
+                self.failed = true;
+                self.gone = gone;
+                Err(fault)
+            }
+        }
+    }
+}

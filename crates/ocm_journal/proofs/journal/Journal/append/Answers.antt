@@ -1,0 +1,28 @@
+use Rattle.std.proofs.Common.{◌<◌, length, sym, ◌∙◌, ap, arith}
+use Rattle.ocm_image.specs.Layout.{live_start}
+use Rattle.ocm_journal.proofs.Appended.{blocks_size-push}
+use Rattle.ocm_journal.proofs.AppendStands.{on_ok, append_moments, append_image}
+use Rattle.ocm_journal.proofs.journal.Journal.append.Goals as goal
+
+pub returns-then-is_err-clause-any_moment : goal.returns-then-is_err-clause-any_moment
+returns-then-is_err-clause-any_moment g c = λ tells label records s.
+    let inside : c.args.self.now.gate < length (g.D.Disk.seen c.args.self.now.disk) = omega (arith, c.args.self.now.inside, g.met.D.Disk.sizes c.args.self.now.disk tells) in
+    append_moments g.D.Disk label records c.args.self.now c.args.bytes.now c.deref.result.now c.put_behind.new.disk (c.deref.ensures.value ∙ c.fill.ensures.items) c.requires.size c.if-self-size.false inside s (c.put_behind.ensures.any_moment tells s.durable)
+
+pub returns-clause-any_moment : goal.returns-clause-any_moment
+returns-clause-any_moment g c = λ tells label records s.
+    let inside : c.args.self.now.gate < length (g.D.Disk.seen c.args.self.now.disk) = omega (arith, c.args.self.now.inside, g.met.D.Disk.sizes c.args.self.now.disk tells) in
+    append_moments g.D.Disk label records c.args.self.now c.args.bytes.now c.deref.result.now c.put_behind.new.disk (c.deref.ensures.value ∙ c.fill.ensures.items) c.requires.size c.if-self-size.false inside s (c.put_behind.ensures.any_moment tells s.durable)
+
+pub returns-clause-acknowledged : goal.returns-clause-acknowledged
+returns-clause-acknowledged g c = λ tells label records s.
+    let inside : c.args.self.now.gate < length (g.D.Disk.seen c.args.self.now.disk) = omega (arith, c.args.self.now.inside, g.met.D.Disk.sizes c.args.self.now.disk tells) in
+    let good = sym c.is_err.ensures.value ∙ c.if-is_err.false in
+    let after = append_image g.D.Disk label records c.args.self.now c.args.bytes.now c.deref.result.now c.put_behind.new.disk (c.deref.ensures.value ∙ c.fill.ensures.items) c.requires.size c.if-self-size.false inside s (g.D.Disk.seen c.put_behind.new.disk) (on_ok c.put_behind.result _ good (c.put_behind.ensures.switched tells)) in
+    record {
+      image = after.0;
+      selector = s.selector;
+      start = ap (λ k. live_start c.args.self.now.area k) after.1 ∙ s.start;
+      gate = omega (arith, s.gate, blocks_size-push records c.args.bytes.now);
+      durable = on_ok c.put_behind.result _ good (c.put_behind.ensures.durable tells);
+    }

@@ -1,0 +1,57 @@
+use Rattle.std.proofs.Common.{◌≡◌, ◌≤◌, ◌<◌, ◌+◌, ◌-◌, length, refl, sym, ◌∙◌, arith}
+use Rattle.ocm_image.specs.Layout.{blocks_size}
+use Rattle.ocm_journal.proofs.AppendStands.{on_ok, stands_with}
+use Rattle.ocm_journal.proofs.RenewStands.{length-renewed, renewal_moments, renewal_image}
+use Rattle.ocm_journal.proofs.journal.Journal.renew.Goals as goal
+
+pub returns-in_err-room-clause-memory : goal.returns-in_err-room-clause-memory
+returns-in_err-room-clause-memory g c = λ tells label before s none.
+    let t = stands_with g.D.Disk label before c.args.self.now c.room.new.self c.room.ensures.seen (c.room.ensures.crash tells) s in
+    record { image = t.0; selector = s.selector; start = t.1; gate = s.gate; durable = t.2 }
+
+pub put_behind-requires-clause-end : goal.put_behind-requires-clause-end
+put_behind-requires-clause-end g c =
+    let fits : 2 + blocks_size c.args.records.now ≤ c.args.self.now.area = c.if-not-fits_area.ensures.0 refl in
+    let size = length-renewed (c.other_area-other.result.0 - c.min-place.result) c.args.records.now c.in_ok-text.text c.as_slice.result.now c.as_slice.ensures c.in_ok-text.ensures in
+    omega (arith, size, c.min-place.ensures, c.other_area-other.ensures.high, c.args.self.now.area_size.1, fits)
+
+pub invariant_of-self-2-clause-gate_within : goal.invariant_of-self-2-clause-gate_within
+invariant_of-self-2-clause-gate_within g c =
+    let fits : 2 + blocks_size c.args.records.now ≤ c.args.self.now.area = c.if-not-fits_area.ensures.0 refl in
+    let size = length-renewed (c.other_area-other.result.0 - c.min-place.result) c.args.records.now c.in_ok-text.text c.in_ok-text.text refl c.in_ok-text.ensures in
+    let len : c.len-2.result ≡ length c.in_ok-text.text = c.len-2.ensures in
+    (omega (arith, size, len, c.min-place.ensures), omega (arith, size, len, c.min-place.ensures, fits))
+
+pub returns-then-is_err-clause-any_moment : goal.returns-then-is_err-clause-any_moment
+returns-then-is_err-clause-any_moment g c = λ tells label before s.
+    let d = g.D.Disk in
+    let fits : 2 + blocks_size c.args.records.now ≤ c.args.self.now.area = c.if-not-fits_area.ensures.0 refl in
+    let len_is : c.len.result ≡ length (d.seen c.args.self.now.disk) = c.len.ensures ∙ sym (g.met.D.Disk.sizes c.args.self.now.disk tells) in
+    let inside : c.args.self.now.gate < c.len.result = omega (arith, c.args.self.now.inside, c.len.ensures) in
+    renewal_moments g.D.Disk label before c.args.records.now c.args.self.now c.room.new.self c.other_area-other.result.0 c.other_area-other.result.1 c.min-place.result c.len.result c.in_ok-text.text c.as_slice.result.now c.other_area-other.ensures.second c.other_area-other.ensures.first c.requires.sizes fits len_is c.min-place.ensures inside c.as_slice.ensures c.in_ok-text.ensures c.room.ensures.seen s c.put_behind.new.disk (g.met.D.Disk.only_now c.args.self.now.disk) c.room.ensures.time (c.room.ensures.crash tells) (c.put_behind.ensures.any_moment tells)
+
+pub returns-clause-any_moment : goal.returns-clause-any_moment
+returns-clause-any_moment g c = λ tells label before s.
+    let d = g.D.Disk in
+    let fits : 2 + blocks_size c.args.records.now ≤ c.args.self.now.area = c.if-not-fits_area.ensures.0 refl in
+    let len_is : c.len.result ≡ length (d.seen c.args.self.now.disk) = c.len.ensures ∙ sym (g.met.D.Disk.sizes c.args.self.now.disk tells) in
+    let inside : c.args.self.now.gate < c.len.result = omega (arith, c.args.self.now.inside, c.len.ensures) in
+    renewal_moments g.D.Disk label before c.args.records.now c.args.self.now c.room.new.self c.other_area-other.result.0 c.other_area-other.result.1 c.min-place.result c.len.result c.in_ok-text.text c.as_slice.result.now c.other_area-other.ensures.second c.other_area-other.ensures.first c.requires.sizes fits len_is c.min-place.ensures inside c.as_slice.ensures c.in_ok-text.ensures c.room.ensures.seen s c.put_behind.new.disk (g.met.D.Disk.only_now c.args.self.now.disk) c.room.ensures.time (c.room.ensures.crash tells) (c.put_behind.ensures.any_moment tells)
+
+pub returns-clause-acknowledged : goal.returns-clause-acknowledged
+returns-clause-acknowledged g c = λ tells label before s.
+    let d = g.D.Disk in
+    let fits : 2 + blocks_size c.args.records.now ≤ c.args.self.now.area = c.if-not-fits_area.ensures.0 refl in
+    let len_is : c.len.result ≡ length (d.seen c.args.self.now.disk) = c.len.ensures ∙ sym (g.met.D.Disk.sizes c.args.self.now.disk tells) in
+    let inside : c.args.self.now.gate < c.len.result = omega (arith, c.args.self.now.inside, c.len.ensures) in
+    let good = sym c.is_err.ensures.value ∙ c.if-is_err.false in
+    let new = renewal_image g.D.Disk label before c.args.records.now c.args.self.now c.room.new.self c.other_area-other.result.0 c.other_area-other.result.1 c.min-place.result c.len.result c.in_ok-text.text c.as_slice.result.now c.other_area-other.ensures.second c.other_area-other.ensures.first c.requires.sizes fits len_is c.min-place.ensures inside c.as_slice.ensures c.in_ok-text.ensures c.room.ensures.seen s (d.seen c.put_behind.new.disk) (on_ok c.put_behind.result _ good (c.put_behind.ensures.switched tells)) in
+    let size = length-renewed (c.other_area-other.result.0 - c.min-place.result) c.args.records.now c.in_ok-text.text c.in_ok-text.text refl c.in_ok-text.ensures in
+    let len : c.len-2.result ≡ length c.in_ok-text.text = c.len-2.ensures in
+    record {
+      image = new.0;
+      selector = s.selector;
+      start = new.1;
+      gate = omega (arith, size, len, c.min-place.ensures);
+      durable = on_ok c.put_behind.result _ good (c.put_behind.ensures.durable tells);
+    }

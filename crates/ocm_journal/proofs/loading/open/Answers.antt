@@ -1,0 +1,17 @@
+use Rattle.std.proofs.Common.{◌⊎◌, ℕ, List, inl, inr, sym, ◌∙◌, subst}
+use Rattle.ocm_disk.specs.Disk.{Only}
+use Rattle.ocm_journal.specs.Openings.{StaysAsItOpens}
+use Rattle.ocm_journal.proofs.AppendStands.{on_ok}
+use Rattle.ocm_journal.proofs.Moving.{still, weaker, joined}
+use Rattle.ocm_journal.proofs.loading.open.Goals as goal
+
+pub returns-clause-any_moment : goal.returns-clause-any_moment
+returns-clause-any_moment g c = λ tells.
+    let d = g.D.Disk in
+    let P : List ℕ → Type 0 = λ x. d.may_leave c.args.disk.now x ⊎ StaysAsItOpens c.args.label.now c.args.area (d.seen c.args.disk.now) x in
+    let good = sym c.is_err.ensures.value ∙ c.if-is_err.false in
+    let durable = on_ok c.sync.result _ good (c.sync.ensures.durable tells) in
+    let only_mid : Only (d.seen c.sync.new.self) (d.may_leave c.sync.new.self) = λ x left. durable x left ∙ sym c.sync.ensures.seen in
+    let first = still d.moment d.left_since c.args.disk.now c.sync.new.self P (d.may_leave c.args.disk.now) (d.may_leave c.sync.new.self) (g.met.D.Disk.only_now c.args.disk.now) (λ x left. inl left) c.sync.ensures.time (c.sync.ensures.crash tells) in
+    let last = weaker d.moment d.left_since c.sync.new.self c.open_synced.new.disk (StaysAsItOpens c.args.label.now c.args.area (d.seen c.sync.new.self)) P (c.open_synced.ensures.any_moment tells only_mid) (λ x stays. inr (subst (λ (b : List ℕ). StaysAsItOpens c.args.label.now c.args.area b x) c.sync.ensures.seen stays)) in
+    joined d.moment d.left_since c.args.disk.now c.sync.new.self c.open_synced.new.disk P first last

@@ -1,0 +1,27 @@
+use Rattle.std.proofs.Common.{◌≡◌, ℕ, [], List, length, get_or, ap, arith}
+use Rattle.ocm_journal.specs.Openings.{Opens}
+use Rattle.ocm_journal.proofs.Moving.{weaker, joined}
+use Rattle.ocm_journal.proofs.Made.{in_begin, begun}
+use Rattle.ocm_journal.proofs.making.begin.Goals as goal
+
+pub returns-in_err-put-clause-any_moment : goal.returns-in_err-put-clause-any_moment
+returns-in_err-put-clause-any_moment g c = λ tells only label area label_size area_size is.
+    let seen : List ℕ = g.D.Disk.seen c.args.disk.now in
+    let size : length seen ≡ g.D.Disk.size c.args.disk.now = g.met.D.Disk.sizes c.args.disk.now tells in
+    weaker g.D.Disk.moment g.D.Disk.left_since c.args.disk.now c.put.new.disk _ (Opens label area []) (c.put.ensures.any_moment tells only) (λ b torn. in_begin label area seen b (omega (arith, size, c.requires.few)) torn)
+
+pub returns-clause-made : goal.returns-clause-made
+returns-clause-made g c = λ tells.
+    let seen : List ℕ = g.D.Disk.seen c.args.disk.now in
+    let size : length seen ≡ g.D.Disk.size c.args.disk.now = g.met.D.Disk.sizes c.args.disk.now tells in
+    let stands = begun seen (g.D.Disk.seen c.put.new.disk) (omega (arith, size, c.requires.few)) (c.in_ok-put.ensures.written tells) in
+    c.go_on.ensures.made tells (ap (λ (l : List ℕ). get_or l 0 0) stands)
+
+pub returns-clause-any_moment : goal.returns-clause-any_moment
+returns-clause-any_moment g c = λ tells only label area label_size area_size is.
+    let seen : List ℕ = g.D.Disk.seen c.args.disk.now in
+    let size : length seen ≡ g.D.Disk.size c.args.disk.now = g.met.D.Disk.sizes c.args.disk.now tells in
+    let stands = begun seen (g.D.Disk.seen c.put.new.disk) (omega (arith, size, c.requires.few)) (c.in_ok-put.ensures.written tells) in
+    let before = weaker g.D.Disk.moment g.D.Disk.left_since c.args.disk.now c.put.new.disk _ (Opens label area []) (c.put.ensures.any_moment tells only) (λ b torn. in_begin label area seen b (omega (arith, size, c.requires.few)) torn) in
+    let last = c.go_on.ensures.any_moment tells (c.in_ok-put.ensures.durable tells) (ap (λ (l : List ℕ). get_or l 0 0) stands) label area label_size area_size is in
+    joined g.D.Disk.moment g.D.Disk.left_since c.args.disk.now c.put.new.disk c.go_on.new.disk (Opens label area []) before last

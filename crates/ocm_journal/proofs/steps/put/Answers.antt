@@ -1,0 +1,19 @@
+use Rattle.std.proofs.Common.{◌≡◌, ◌+◌, subst, arith, length}
+use Rattle.ocm_journal.proofs.Moving.{torn_now, wrote, then_synced}
+use Rattle.ocm_journal.proofs.steps.put.Goals as goal
+
+pub returns-in_err-write_at-clause-passes : goal.returns-in_err-write_at-clause-passes
+returns-in_err-write_at-clause-passes g c = λ n p fits. let e : n + 2 ≡ n + 1 + 1 = omega arith in let q = c.in_err-write_at.ensures.passes (n + 1) (subst (λ k. g.D.Disk.passes c.args.disk.now k) e p) fits in absurd (let ok = q.0 in cc)
+
+pub returns-in_err-sync-clause-passes : goal.returns-in_err-sync-clause-passes
+returns-in_err-sync-clause-passes g c = λ n p fits. let e : n + 2 ≡ n + 1 + 1 = omega arith in let q = c.in_ok-write_at.ensures.passes (n + 1) (subst (λ k. g.D.Disk.passes c.args.disk.now k) e p) fits in let r = c.in_err-sync.ensures.passes n q.1 in absurd (let ok = r.0 in cc)
+
+pub returns-in_err-sync-clause-any_moment : goal.returns-in_err-sync-clause-any_moment
+returns-in_err-sync-clause-any_moment g c = λ tells only.
+    let first = wrote g.D.Disk.moment g.D.Disk.left_since c.args.disk.now c.write_at.new.self c.args.place (length c.args.text.now) (g.D.Disk.seen c.args.disk.now) (g.D.Disk.may_leave c.args.disk.now) (g.D.Disk.may_leave c.write_at.new.self) (g.met.D.Disk.only_now c.args.disk.now) only c.write_at.ensures.time (c.write_at.ensures.crash tells) in
+    then_synced g.D.Disk.moment g.D.Disk.left_since c.args.disk.now c.write_at.new.self c.sync.new.self _ _ _ first (torn_now _ _ _ _ _ only (c.write_at.ensures.crash tells)) c.sync.ensures.time (c.sync.ensures.crash tells)
+
+pub returns-clause-any_moment : goal.returns-clause-any_moment
+returns-clause-any_moment g c = λ tells only.
+    let first = wrote g.D.Disk.moment g.D.Disk.left_since c.args.disk.now c.write_at.new.self c.args.place (length c.args.text.now) (g.D.Disk.seen c.args.disk.now) (g.D.Disk.may_leave c.args.disk.now) (g.D.Disk.may_leave c.write_at.new.self) (g.met.D.Disk.only_now c.args.disk.now) only c.write_at.ensures.time (c.write_at.ensures.crash tells) in
+    then_synced g.D.Disk.moment g.D.Disk.left_since c.args.disk.now c.write_at.new.self c.sync.new.self _ _ _ first (torn_now _ _ _ _ _ only (c.write_at.ensures.crash tells)) c.sync.ensures.time (c.sync.ensures.crash tells)

@@ -1,0 +1,5 @@
+pub mod Faults
+pub mod Journals
+pub mod Openings
+pub mod Steps
+pub mod Renewals

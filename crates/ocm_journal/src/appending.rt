@@ -1,0 +1,97 @@
+ghost use Rattle.std.specs.Prelude.{◌≡◌, ◌⊎◌, ◌<◌, ◌≤◌, ◌+◌, ◌^◌, ◌∷◌, [], ◌++◌, ◌↔◌, ℕ, List, length, vec_capacity, OnOk, OnErr, IsOk, IfErr, IsErrOf, true, false};
+ghost use Rattle.std.specs.Int.{w32, to_be_bytes};
+ghost use Rattle.ocm_base.specs.Outside.{raised};
+ghost use Rattle.ocm_disk.specs.Disk.{LeavesOnly};
+ghost use Rattle.ocm_journal.specs.Faults.{HasCount, stops};
+ghost use Rattle.ocm_journal.specs.Journals.{record_text, IsBeforeOrAfter, disk_of, IsFullFor, HasRoom, SameShape, StandsFor};
+
+use crate::journal::Journal;
+use crate::steps::put_behind;
+use ocm_base::NoMemory;
+use ocm_disk::Disk;
+
+/// Why a record was not appended.
+#[derive(Clone, Copy, Debug, PartialEq, Eq)]
+pub enum AppendFault {
+    /// It would pass the end of the live area. Nothing was written.
+    Full,
+    /// The disk failed. Its count of faults is now this. The record may be there after a crash or not.
+    DiskFault(u64),
+}
+
+// Adds a piece to a text that has room for it.
+fn add(text: &mut Vec<u8>, piece: &[u8])
+    requires { length text.old.items + length piece.now ≤ vec_capacity text.old }
+    ensures items { text.new.items ≡ text.old.items ++ piece.now }
+    ensures capacity { vec_capacity text.old ≤ vec_capacity text.new }
+{
+    match text.extend_from_slice(piece) {
+        Ok(()) => {}
+        Err(_) => unreachable!(),
+    }
+}
+
+// What is written of a record before its gate byte.
+fn fill(text: &mut Vec<u8>, bytes: &[u8])
+    requires few { length bytes.now ≤ 2097152 }
+    requires room { length bytes.now + 5 ≤ vec_capacity text.old }
+    ensures items { text.new.items ≡ record_text bytes.now }
+    ensures capacity { vec_capacity text.old ≤ vec_capacity text.new }
+{
+    text.clear();
+    add(text, &(bytes.len() as u32).to_be_bytes());
+    add(text, bytes);
+    add(text, &[0]);
+}
+
+impl<D: Disk> Journal<D> {
+    /// Takes memory for a record of `n` bytes. It is no device call.
+    pub fn room(&mut self, n: u64) -> Result<(), NoMemory>
+        ensures room { OnOk result (HasRoom ⟦<D as Disk>⟧ self.new n) }
+        ensures shape { SameShape self.old self.new }
+        ensures stopped { self.new.stopped ≡ self.old.stopped }
+        ensures stands { D.tells → (label : List ℕ) (records : List (List ℕ)) → StandsFor ⟦<D as Disk>⟧ label records self.old → StandsFor ⟦<D as Disk>⟧ label records self.new }
+        ensures any_moment { D.tells → LeavesOnly D.moment D.left_since (disk_of self.old) (disk_of self.new) (D.may_leave (disk_of self.old)) }
+        ensures passes { (calls : ℕ) → D.passes (disk_of self.old) calls → D.passes (disk_of self.new) calls }
+        ensures count { D.count (disk_of self.new) ≡ D.count (disk_of self.old) }
+    {
+        let Some(size) = n.checked_add(5) else {
+            return Err(NoMemory);
+        };
+        self.text.clear();
+        self.text.reserve(size as usize)?;
+        self.disk.room(size)
+    }
+
+    /// Appends a record of 1 to 2,097,152 bytes, for which room was taken. At `Ok` it is on the disk: from then on
+    /// each crash leaves it there. Takes no memory.
+    pub fn append(&mut self, bytes: &[u8]) -> Result<(), AppendFault>
+        requires size { (1 ≤ length bytes.now) × (length bytes.now ≤ 2097152) }
+        requires room { HasRoom ⟦<D as Disk>⟧ self.old (length bytes.now) }
+        requires goes { self.old.stopped ≡ false }
+        ensures acknowledged { D.tells → (label : List ℕ) (records : List (List ℕ)) → StandsFor ⟦<D as Disk>⟧ label records self.old
+            → OnOk result (StandsFor ⟦<D as Disk>⟧ label (records ++ bytes.now ∷ []) self.new) }
+
+        // A crash at any moment of the call leaves an image of the records from before it, with the new one or without.
+        ensures any_moment { D.tells → (label : List ℕ) (records : List (List ℕ)) → StandsFor ⟦<D as Disk>⟧ label records self.old
+            → LeavesOnly D.moment D.left_since (disk_of self.old) (disk_of self.new) (IsBeforeOrAfter label self.old.area self.old.form records bytes.now) }
+        ensures full { IsErrOf result AppendFault.Full ↔ IsFullFor self.old (length bytes.now) }
+        ensures unchanged { IsErrOf result AppendFault.Full → self.new ≡ self.old }
+        ensures fault { IfErr result (HasCount (D.count (disk_of self.old)) (D.count (disk_of self.new))) }
+        ensures stopped { self.new.stopped ≡ stops result }
+        ensures shape { SameShape self.old self.new }
+        ensures passes { (calls : ℕ) → D.passes (disk_of self.old) (calls + 4) → IsErrOf result AppendFault.Full ⊎ (IsOk result × D.passes (disk_of self.new) calls) }
+    {
+        let size = bytes.len() as u64;
+        if self.start + self.area < self.gate + size + 6 {
+            return Err(AppendFault::Full);
+        }
+        fill(&mut self.text, bytes);
+        if put_behind(&mut self.disk, self.gate + 1, &self.text, self.gate, 1).is_err() {
+            self.stopped = true;
+            return Err(AppendFault::DiskFault(self.disk.faults()));
+        }
+        self.gate += size + 5;
+        Ok(())
+    }
+}

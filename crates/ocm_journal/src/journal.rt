@@ -1,0 +1,22 @@
+ghost use Rattle.std.specs.Prelude.{◌<◌, ◌≤◌, ◌+◌};
+ghost use Rattle.ocm_image.specs.Layout.{IsAreaSize};
+
+use ocm_disk::Disk;
+
+/// A journal on a disk: records, each of which is there whole after a crash, or not at all.
+#[derive(Drop)]
+pub struct Journal<D: Disk> {
+    pub(crate) disk: D,
+    pub(crate) selector: u64,
+    pub(crate) area: u64,
+    pub(crate) start: u64,
+    pub(crate) form: u8,
+    pub(crate) gate: u64,
+    pub(crate) stopped: bool,
+    pub(crate) text: Vec<u8>,
+    ghost selector_within: { (18 ≤ selector) × (selector ≤ 272) },
+    ghost area_size: { IsAreaSize area },
+    ghost starts: { (512 ≤ start) × (start ≤ 512 + area) },
+    ghost gate_within: { (start < gate) × (gate < start + area) },
+    ghost inside: { gate < D.size disk },
+}

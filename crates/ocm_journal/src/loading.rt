@@ -1,0 +1,177 @@
+ghost use Rattle.std.specs.Prelude.{◌≡◌, ◌⊎◌, ◌≤◌, ◌^◌, [], List, ℕ, length, OnOk, IfOk, IfErr, Some, None, Ok, min, take, false};
+ghost use Rattle.ocm_disk.specs.Disk.{Only, LeavesOnly};
+ghost use Rattle.ocm_image.specs.Blank.{blank_of, made_form};
+ghost use Rattle.ocm_image.specs.Layout.{IsLabel, IsAreaSize, contents};
+ghost use Rattle.ocm_journal.specs.Journals.{disk_of, StandsFor};
+ghost use Rattle.ocm_journal.specs.Openings.{Opens, BlankSize, IsPlaced, ImageOpens, IsReadFault, IsCounted, IsSaidBy, StaysAsItOpens, opening, new_area};
+
+use crate::faults::OpenFault;
+use crate::journal::Journal;
+use crate::making::make;
+use crate::reading::{Opened, open_image, read_part};
+use ocm_base::{List, NoMemory};
+use ocm_disk::Disk;
+use ocm_image::{Blank, RawRecord, fresh_bytes, read_blank};
+use std::alloc::Global;
+
+// The form that a journal made of a blank disk has.
+fn made_form(blank: Blank) -> u8
+    ensures { result ≡ made_form blank }
+{
+    match blank {
+        Blank::Written(form) => form,
+        _ => 2,
+    }
+}
+
+// How far the making of a journal had come on a disk of `len` bytes that begins with `front`, at most 514 of them.
+fn find_blank(
+    alloc: Global,
+    label: &[u8],
+    area: u64,
+    len: u64,
+    front: &[u8],
+) -> Result<Option<Blank>, NoMemory>
+    requires label { IsLabel label.now }
+    requires front { length front.now ≡ min len 514 }
+    ensures blank { (seen : List ℕ) → length seen ≡ len → front.now ≡ take (length front.now) seen → IfOk result (λ blank. blank ≡ blank_of label.now area seen) }
+    ensures size { (blank : Blank) → result ≡ Ok (Some blank) → BlankSize blank len }
+{
+    if len > 514 {
+        return Ok(None);
+    }
+    read_blank(alloc, label, area, front)
+}
+
+// Makes an empty journal of a blank disk.
+fn open_blank<D: Disk>(
+    alloc: Global,
+    disk: &mut D,
+    label: &[u8],
+    area: u64,
+    blank: Blank,
+) -> Result<Opened, OpenFault>
+    requires label { IsLabel label.now }
+    requires area { IsAreaSize area }
+    requires size { BlankSize blank (D.size disk.old) }
+    ensures placed { IfOk result (IsPlaced (D.size disk.new)) }
+    ensures opens { D.tells → blank_of label.now area (D.seen disk.old) ≡ Some blank → IfOk result (ImageOpens label.now (D.seen disk.new)) }
+    ensures none { IfOk result (λ opened. opened.records ≡ []) }
+    ensures durable { D.tells → OnOk result (Only (D.seen disk.new) (D.may_leave disk.new)) }
+    ensures any_moment { D.tells → Only (D.seen disk.old) (D.may_leave disk.old) → blank_of label.now area (D.seen disk.old) ≡ Some blank
+        → LeavesOnly D.moment D.left_since disk.old disk.new (Opens label.now area []) }
+    ensures fault { IfErr result (IsReadFault (D.count disk.old) (D.count disk.new)) }
+{
+    let text = fresh_bytes(alloc, label, area, 2)?;
+    disk.room(514)?;
+    if make(disk, blank, text.as_slice()).is_err() {
+        return Err(OpenFault::DiskFault(disk.faults()));
+    }
+    Ok(Opened {
+        selector: 17 + label.len() as u64,
+        area,
+        start: 512,
+        form: made_form(blank),
+        gate: 513,
+        records: List::new(alloc),
+    })
+}
+
+// Opens a disk of which a crash leaves what it reads.
+fn open_synced<D: Disk>(
+    alloc: Global,
+    disk: &mut D,
+    label: &[u8],
+    area: u64,
+) -> Result<Opened, OpenFault>
+    requires label { IsLabel label.now }
+    requires area { IsAreaSize area }
+    ensures placed { IfOk result (IsPlaced (D.size disk.new)) }
+    ensures opens { D.tells → IfOk result (ImageOpens label.now (D.seen disk.new)) }
+    ensures reads { D.tells → IfOk result (λ opened. opening label.now area (D.seen disk.old) ≡ Ok opened.records) }
+    ensures durable { D.tells → Only (D.seen disk.old) (D.may_leave disk.old) → OnOk result (Only (D.seen disk.new) (D.may_leave disk.new)) }
+    ensures says { D.tells → IfErr result (IsSaidBy (opening label.now area (D.seen disk.old))) }
+    ensures cause { IfErr result (IsCounted (D.count disk.old) (D.count disk.new)) }
+    ensures any_moment { D.tells → Only (D.seen disk.old) (D.may_leave disk.old)
+        → LeavesOnly D.moment D.left_since disk.old disk.new (StaysAsItOpens label.now area (D.seen disk.old)) }
+{
+    let len = disk.len();
+    let front = read_part(alloc, disk, 0, len.min(514))?;
+    match find_blank(alloc, label, area, len, &front)? {
+        Some(blank) => open_blank(alloc, disk, label, area, blank),
+        None => open_image(alloc, disk, label, &front),
+    }
+}
+
+// Opens a disk, after a sync.
+fn open<D: Disk>(alloc: Global, disk: &mut D, label: &[u8], area: u64) -> Result<Opened, OpenFault>
+    requires label { IsLabel label.now }
+    requires area { IsAreaSize area }
+    ensures placed { IfOk result (IsPlaced (D.size disk.new)) }
+    ensures opens { D.tells → IfOk result (ImageOpens label.now (D.seen disk.new)) }
+    ensures reads { D.tells → IfOk result (λ opened. opening label.now area (D.seen disk.old) ≡ Ok opened.records) }
+    ensures durable { D.tells → OnOk result (Only (D.seen disk.new) (D.may_leave disk.new)) }
+    ensures says { D.tells → IfErr result (IsSaidBy (opening label.now area (D.seen disk.old))) }
+    ensures cause { IfErr result (IsCounted (D.count disk.old) (D.count disk.new)) }
+    ensures any_moment { D.tells
+        → LeavesOnly D.moment D.left_since disk.old disk.new (λ c. D.may_leave disk.old c ⊎ StaysAsItOpens label.now area (D.seen disk.old) c) }
+{
+    if disk.sync().is_err() {
+        return Err(OpenFault::DiskFault(disk.faults()));
+    }
+    open_synced(alloc, disk, label, area)
+}
+
+impl<D: Disk> Journal<D> {
+    /// Opens the journal of this label that a disk holds, and gives its records, the oldest first. A disk on which
+    /// no journal was made yet becomes an empty journal of form 2, or of the form that was written before a crash.
+    /// The label has 1 to 255 bytes. `limit` is the most bytes that a new journal may take, from 4,096 to 2^39; a
+    /// journal that is opened keeps its size. Begins with a sync, before which nothing is changed.
+    pub fn load(
+        alloc: Global,
+        disk: D,
+        label: &[u8],
+        limit: u64,
+    ) -> Result<(Journal<D>, List<RawRecord>), (D, OpenFault)>
+        requires label { IsLabel label.now }
+        requires limit { (4096 ≤ limit) × (limit ≤ 2 ^ 39) }
+        ensures reads { D.tells → IfOk result (λ loaded. opening label.now (new_area limit) (D.seen disk) ≡ Ok loaded.1) }
+        ensures stands { D.tells → IfOk result (λ loaded. StandsFor ⟦<D as Disk>⟧ label.now (contents loaded.1) loaded.0) }
+        ensures goes { IfOk result (λ loaded. loaded.0.stopped ≡ false) }
+        ensures says { D.tells → IfErr result (λ failed. IsSaidBy (opening label.now (new_area limit) (D.seen disk)) failed.1) }
+        ensures cause { IfErr result (λ failed. IsCounted (D.count disk) (D.count failed.0) failed.1) }
+
+        // A crash at any moment leaves what it might have left before the call, or, from the first sync on, the bytes
+        // as they were read, or, while a journal is made, what opens to no records.
+        ensures moments_ok { D.tells → IfOk result (λ loaded. LeavesOnly D.moment D.left_since disk (disk_of loaded.0)
+            (λ c. D.may_leave disk c ⊎ StaysAsItOpens label.now (new_area limit) (D.seen disk) c)) }
+        ensures moments_err { D.tells → IfErr result (λ failed. LeavesOnly D.moment D.left_since disk failed.0
+            (λ c. D.may_leave disk c ⊎ StaysAsItOpens label.now (new_area limit) (D.seen disk) c)) }
+    {
+        let mut disk = disk;
+        match open(alloc, &mut disk, label, (limit - 512) / 2) {
+            Ok(opened) => {
+                let Opened {
+                    selector,
+                    area,
+                    start,
+                    form,
+                    gate,
+                    records,
+                } = opened;
+                let journal = Journal {
+                    disk,
+                    selector,
+                    area,
+                    start,
+                    form,
+                    gate,
+                    stopped: false,
+                    text: Vec::new(alloc),
+                };
+                Ok((journal, records))
+            }
+            Err(fault) => Err((disk, fault)),
+        }
+    }
+}

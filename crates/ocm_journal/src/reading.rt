@@ -1,0 +1,109 @@
+//! How a disk is read, which changes nothing on it.
+ghost use Rattle.std.specs.Prelude.{◌≡◌, ◌≤◌, ◌<◌, ◌+◌, ◌^◌, min, List, ℕ, length, take, drop, OnOk, IfOk, IfErr, Ok, Err};
+ghost use Rattle.ocm_base.specs.Hex.{AreBytes};
+ghost use Rattle.ocm_disk.specs.Disk.{LeavesOnly};
+ghost use Rattle.ocm_image.specs.Layout.{IsLabel, IsAreaSize};
+ghost use Rattle.ocm_image.specs.Reading.{header_of, area_of, start_of};
+ghost use Rattle.ocm_journal.specs.Openings.{records_in, records_below, IsReadFault, IsSaid, IsSaidBy, IsCounted, IsPlaced, ImageOpens};
+
+use crate::faults::OpenFault;
+use ocm_base::{Bytes, List};
+use ocm_disk::Disk;
+use ocm_image::{Area, Header, RawRecord, read_area, read_header};
+use std::alloc::Global;
+
+/// What was read of an image, and where it stands.
+#[derive(Drop)]
+pub(crate) struct Opened {
+    pub(crate) selector: u64,
+    pub(crate) area: u64,
+    pub(crate) start: u64,
+    pub(crate) form: u8,
+    pub(crate) gate: u64,
+    pub(crate) records: List<RawRecord>,
+}
+
+// Reads so many bytes from a place on.
+pub(crate) fn read_part<D: Disk>(
+    alloc: Global,
+    disk: &mut D,
+    place: u64,
+    count: u64,
+) -> Result<Vec<u8>, OpenFault>
+    requires { place + count ≤ D.size disk.old }
+    ensures bytes { D.tells → IfOk result (λ v. v.items ≡ take count (drop place (D.seen disk.old))) }
+    ensures length { IfOk result (λ v. length v.items ≡ count) }
+    ensures size { D.size disk.new ≡ D.size disk.old }
+    ensures seen { D.seen disk.new ≡ D.seen disk.old }
+    ensures crash { D.tells → (c : List ℕ) → D.may_leave disk.new c → D.may_leave disk.old c }
+    ensures any_moment { D.tells → LeavesOnly D.moment D.left_since disk.old disk.new (D.may_leave disk.old) }
+    ensures count { OnOk result (D.count disk.new ≡ D.count disk.old) }
+    ensures fault { IfErr result (IsReadFault (D.count disk.old) (D.count disk.new)) }
+{
+    let mut bytes = Vec::new(alloc);
+    if bytes.resize(count as usize, 0).is_err() {
+        return Err(OpenFault::NoMemory);
+    }
+    if disk.read_at(place, &mut bytes).is_err() {
+        return Err(OpenFault::DiskFault(disk.faults()));
+    }
+    Ok(bytes)
+}
+
+// Reads the live area of a header from its bytes.
+fn open_area(alloc: Global, len: u64, header: Header, bytes: &[u8]) -> Result<Opened, OpenFault>
+    requires label { IsLabel header.label }
+    requires area { IsAreaSize header.area }
+    requires within { length bytes.now ≤ header.area }
+    requires there { start_of header + length bytes.now ≤ len }
+    ensures placed { IfOk result (IsPlaced len) }
+    ensures header { IfOk result (λ opened. (opened.selector ≡ 17 + length header.label) × (opened.area ≡ header.area) × (opened.start ≡ start_of header)) }
+    ensures reads { IfOk result (λ opened. area_of len (start_of header) bytes.now ≡ Ok (record { form = opened.form; records = opened.records; end = opened.gate })) }
+    ensures bytes { IfOk result (λ opened. AreBytes bytes.now) }
+    ensures fault { IfErr result (IsSaid (records_in (area_of len (start_of header) bytes.now))) }
+{
+    let start = header.start();
+    let Area { form, records, end } = read_area(alloc, len, start, bytes)?;
+    Ok(Opened {
+        selector: 17 + header.label.len() as u64,
+        area: header.area,
+        start,
+        form,
+        gate: end,
+        records,
+    })
+}
+
+// Reads the image that a disk holds. `front` are its first bytes, at most 514 of them.
+pub(crate) fn open_image<D: Disk>(
+    alloc: Global,
+    disk: &mut D,
+    label: &[u8],
+    front: &[u8],
+) -> Result<Opened, OpenFault>
+    requires label { IsLabel label.now }
+    requires front { length front.now ≡ min (D.size disk.old) 514 }
+    ensures placed { IfOk result (IsPlaced (D.size disk.new)) }
+    ensures opens { D.tells → front.now ≡ take (length front.now) (D.seen disk.old) → IfOk result (ImageOpens label.now (D.seen disk.old)) }
+    ensures reads { D.tells → front.now ≡ take (length front.now) (D.seen disk.old)
+        → IfOk result (λ opened. records_below label.now (D.seen disk.old) (header_of (length (D.seen disk.old)) (D.seen disk.old)) ≡ Ok opened.records) }
+    ensures says { D.tells → front.now ≡ take (length front.now) (D.seen disk.old)
+        → IfErr result (IsSaidBy (records_below label.now (D.seen disk.old) (header_of (length (D.seen disk.old)) (D.seen disk.old)))) }
+    ensures cause { IfErr result (IsCounted (D.count disk.old) (D.count disk.new)) }
+    ensures size { D.size disk.new ≡ D.size disk.old }
+    ensures seen { D.seen disk.new ≡ D.seen disk.old }
+    ensures crash { D.tells → (c : List ℕ) → D.may_leave disk.new c → D.may_leave disk.old c }
+    ensures any_moment { D.tells → LeavesOnly D.moment D.left_since disk.old disk.new (D.may_leave disk.old) }
+{
+    let len = disk.len();
+    let header = read_header(alloc, len, front)?;
+    if header.label.as_slice() != label {
+        return Err(OpenFault::OtherLabel(header.label));
+    }
+    let start = header.start();
+    if start >= len {
+        return Err(OpenFault::NotJournal(len));
+    }
+    let bytes = read_part(alloc, disk, start, header.area.min(len - start))?;
+    open_area(alloc, len, header, &bytes)
+}

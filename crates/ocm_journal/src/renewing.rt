@@ -1,0 +1,90 @@
+ghost use Rattle.std.specs.Prelude.{◌≡◌, ◌≢◌, ◌⊎◌, ◌<◌, ◌≤◌, ◌+◌, ◌↔◌, ℕ, List, OnOk, IsOk, IfErr, IsErrOf, false};
+ghost use Rattle.ocm_disk.specs.Disk.{LeavesOnly};
+ghost use Rattle.ocm_image.specs.Layout.{AreRecords, blocks_size};
+ghost use Rattle.ocm_journal.specs.Renewals.{HasCount, stops};
+ghost use Rattle.ocm_journal.specs.Journals.{IsOldOrNew, disk_of, StandsFor};
+
+use crate::journal::Journal;
+use crate::steps::put_behind;
+use ocm_base::{Bytes, List, NoMemory};
+use ocm_disk::Disk;
+use ocm_image::{area_bytes, fits_area};
+
+/// Why the records of a journal were not renewed.
+#[derive(Clone, Copy, Debug, PartialEq, Eq)]
+pub enum RenewFault {
+    /// They take more bytes than an area has. Nothing was written.
+    Full,
+    /// The disk failed. Its count of faults is now this. After a crash there are the old records or the new ones.
+    DiskFault(u64),
+    /// There was no memory. Nothing was written.
+    NoMemory,
+}
+
+impl From<NoMemory> for RenewFault {
+    ghost use Rattle.std.specs.Prelude.{◌≡◌};
+    ghost use Rattle.ocm_journal.specs.declared.renewing.RenewFault.TheVariants.{NoMemory};
+
+    ghost from_gives = { λ _ fault. fault ≡ NoMemory };
+
+    fn from(_error: NoMemory) -> RenewFault {
+        RenewFault::NoMemory
+    }
+}
+
+// Where the other area begins, and the selector byte that makes it live.
+fn other_area(start: u64, area: u64) -> (u64, u8)
+    requires { area ≤ 274877906944 }
+    ensures second { start ≡ 512 → (result.0 ≡ 512 + area) × (result.1 ≡ 2) }
+    ensures first { start ≢ 512 → (result.0 ≡ 512) × (result.1 ≡ 1) }
+    ensures low { 512 ≤ result.0 }
+    ensures high { result.0 ≤ 512 + area }
+{
+    if start == 512 {
+        (512 + area, 2)
+    } else {
+        (512, 1)
+    }
+}
+
+impl<D: Disk> Journal<D> {
+    /// Puts these records, each of 1 to 2,097,152 bytes, in place of all that the journal holds. They are written to
+    /// the other area in form 2, which is then made live. At `Ok` they are on the disk.
+    pub fn renew(&mut self, records: &List<Bytes>) -> Result<(), RenewFault>
+        requires sizes { AreRecords records.now }
+        requires goes { self.old.stopped ≡ false }
+        ensures acknowledged { D.tells → (label : List ℕ) (before : List (List ℕ)) → StandsFor ⟦<D as Disk>⟧ label before self.old
+            → OnOk result (StandsFor ⟦<D as Disk>⟧ label records.now self.new) }
+
+        // A crash at any moment of the call leaves an image of the old records or of the new ones.
+        ensures any_moment { D.tells → (label : List ℕ) (before : List (List ℕ)) → StandsFor ⟦<D as Disk>⟧ label before self.old
+            → LeavesOnly D.moment D.left_since (disk_of self.old) (disk_of self.new) (IsOldOrNew label self.old.area self.old.form before records.now) }
+        ensures full { IsErrOf result RenewFault.Full → self.old.area < 2 + blocks_size records.now }
+        ensures not_full { self.old.area < 2 + blocks_size records.now → IsErrOf result RenewFault.Full }
+        ensures unchanged { IsErrOf result RenewFault.Full → self.new ≡ self.old }
+        ensures memory { D.tells → (label : List ℕ) (before : List (List ℕ)) → StandsFor ⟦<D as Disk>⟧ label before self.old
+            → IsErrOf result RenewFault.NoMemory → StandsFor ⟦<D as Disk>⟧ label before self.new }
+        ensures fault { IfErr result (HasCount (D.count (disk_of self.old)) (D.count (disk_of self.new))) }
+        ensures stopped { self.new.stopped ≡ stops result }
+        ensures area { self.new.area ≡ self.old.area }
+        ensures form { OnOk result (self.new.form ≡ 2) }
+        ensures passes { (calls : ℕ) → D.passes (disk_of self.old) (calls + 4) → IsErrOf result RenewFault.Full ⊎ IsErrOf result RenewFault.NoMemory ⊎ (IsOk result × D.passes (disk_of self.new) calls) }
+    {
+        if !fits_area(records, self.area) {
+            return Err(RenewFault::Full);
+        }
+        let (other, byte) = other_area(self.start, self.area);
+        let place = other.min(self.disk.len());
+        let text = area_bytes(*self.text.allocator(), (other - place) as usize, records)?;
+        let end = place + text.len() as u64;
+        self.disk.room(text.len() as u64)?;
+        if put_behind(&mut self.disk, place, text.as_slice(), self.selector, byte).is_err() {
+            self.stopped = true;
+            return Err(RenewFault::DiskFault(self.disk.faults()));
+        }
+        self.start = other;
+        self.form = 2;
+        self.gate = end - 1;
+        Ok(())
+    }
+}
