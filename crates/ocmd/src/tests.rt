@@ -11,17 +11,19 @@ fn calls(alloc: Global, listed: &[u64]) -> Result<List<u64>, NoMemory> {
     Ok(numbers)
 }
 
-/// The status of a command of one word, and what it wrote: the source gives seven bytes a call, the
-/// sink takes five, and both fail at the listed calls.
+/// The status of a command, and what it wrote: the source gives seven bytes a call, the sink takes five,
+/// and both fail at the listed calls.
 fn run(
     alloc: Global,
-    word: &str,
+    told: &[&str],
     script: &[u8],
     read_fails: &[u64],
     write_fails: &[u64],
 ) -> Result<(u8, Bytes), Fail> {
     let mut words = Vec::new(alloc);
-    words.push(String::from_str(alloc, word)?)?;
+    for word in told {
+        words.push(String::from_str(alloc, word)?)?;
+    }
     let mut source = MemSource::new(Bytes::of(alloc, script)?, 7, calls(alloc, read_fails)?);
     let mut sink = MemSink::new(alloc, 5, calls(alloc, write_fails)?, 4096)?;
     let status = command(alloc, &words, &mut source, &mut sink);
@@ -42,7 +44,7 @@ fn scripts_decide_the_status(rt: HostRuntime) -> Result<(), Fail> {
         ),
     ];
     for (word, script, status, written) in cases {
-        let (answered, bytes) = run(rt.alloc(), word, script, &[], &[])?;
+        let (answered, bytes) = run(rt.alloc(), &[word], script, &[], &[])?;
         assert_eq!(rt; answered, status);
         assert_eq!(rt; bytes.as_slice(), written);
     }
@@ -59,7 +61,29 @@ fn failing_calls_decide_the_status(rt: HostRuntime) -> Result<(), Fail> {
         (&[], &[2], 4, b"bad l"),
     ];
     for (read_fails, write_fails, status, written) in cases {
-        let (answered, bytes) = run(rt.alloc(), "replay", script, read_fails, write_fails)?;
+        let (answered, bytes) = run(rt.alloc(), &["replay"], script, read_fails, write_fails)?;
+        assert_eq!(rt; answered, status);
+        assert_eq!(rt; bytes.as_slice(), written);
+    }
+    Ok(())
+}
+
+#[test]
+fn records_decide_the_status(rt: HostRuntime) -> Result<(), Fail> {
+    let cases: [(&str, &[u8], u8, &[u8]); 5] = [
+        ("offer", b"{", 8, b"fault 1\n"),
+        ("offer", b"[]", 8, b"fault 2\n"),
+        ("offer", b"{}", 8, b"fault 3 shareWith\n"),
+        ("offer", b"{\"shareWith\":1}", 8, b"fault 4 shareWith\n"),
+        (
+            "error",
+            b"{\"validationErrors\":[],\"message\":\"x\"}",
+            0,
+            b"{\"message\":\"x\"}\n",
+        ),
+    ];
+    for (kind, record, status, written) in cases {
+        let (answered, bytes) = run(rt.alloc(), &["check", kind], record, &[], &[])?;
         assert_eq!(rt; answered, status);
         assert_eq!(rt; bytes.as_slice(), written);
     }
