@@ -1,0 +1,9 @@
+pub mod Thin
+pub mod Readings
+pub mod Further
+pub mod Views
+pub mod Hollow
+pub mod Origins
+pub mod Limits
+pub mod Replies
+pub mod Answered
