@@ -3,7 +3,7 @@
 ghost use Rattle.std.specs.Prelude.{◌≡◌, ◌++◌, [], ◌∷◌, Some, None, codes, false, true};
 ghost use Rattle.ocm_types.specs.declared.phases.Phase.TheVariants.{Confirmed};
 ghost use Rattle.ocm_types.specs.Rights.{all_rights};
-ghost use Rattle.ocm_entry.specs.declared.asks.Ask.TheVariants.{Offer, Settle, Tick};
+ghost use Rattle.ocm_entry.specs.declared.asks.Ask.TheVariants.{Local, Offer, Settle, Tick};
 ghost use Rattle.ocm_entry.specs.declared.asks.Cmd.TheVariants.{Accept, Expire, Limit, List, Unshare};
 ghost use Rattle.ocm_entry.specs.declared.listings.Line.TheVariants as lines;
 ghost use Rattle.ocm_entry.specs.declared.refusals.Why.TheVariants.{NotAllowed, NotFound, NotPermitted, Occupied, ParentMissing, RootStays, SamePlace, SenderIdReused, Unauthorized, WrongPhase};
@@ -53,10 +53,12 @@ pub fn files_and_collections()
 
 /// The secret of a share commands nothing, and no share is limited to more than was granted.
 pub fn limit_refusals()
-    ensures { replies_after our_host (history our_host (sharing to_read)) (alice_commands (Limit 1 to_write)
+    ensures { replies_after our_host (history our_host (sharing to_read)) (Local first_secret (Limit 1 to_read)
+        ∷ alice_commands (Limit 1 to_write)
         ∷ alice_commands List
         ∷ [])
-        ≡ (refused NotPermitted
+        ≡ (refused Unauthorized
+        ∷ refused NotPermitted
         ∷ Listing (lines.Share 1 path_f bob to_read true ∷ [])
         ∷ []) }
 {}

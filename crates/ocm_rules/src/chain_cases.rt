@@ -40,6 +40,30 @@ pub fn revoked_chain()
         ∷ []) }
 {}
 
+/// Where a share below ended before, the end above is told to those who are left.
+pub fn chain_ends_from_below()
+    ensures { replies_after our_host (history our_host chain) (alice_commands (Unshare 2)
+        ∷ alice_commands (Unshare 1)
+        ∷ Due
+        ∷ [])
+        ≡ (Done
+        ∷ Done
+        ∷ replies_are.Due (end_told 4 carol 2 second_secret ∷ end_told 5 dan 3 third_secret ∷ end_told 6 bob 1 first_secret ∷ [])
+        ∷ []) }
+{}
+
+/// Word that a share was taken wants the share's own id and secret, and no more than was granted.
+pub fn unknown_share_is_not_taken()
+    ensures { replies_after our_host (history our_host (sharing to_read)) (accepted_by (codes "9") first_secret bob
+        ∷ accepted_by (codes "1") second_secret bob
+        ∷ accepted_by (codes "1") first_secret bob
+        ∷ [])
+        ≡ (refused UnknownShare
+        ∷ refused UnknownShare
+        ∷ refused NotPermitted
+        ∷ []) }
+{}
+
 /// Where the first share is limited, so are all below it, and each guest is told.
 pub fn limited_chain()
     ensures { replies_after our_host (history our_host chain) (alice_commands (Limit 1 to_read_and_share)
