@@ -10,7 +10,7 @@ pub enum Which {
     FileSize,
     /// The bytes of all files.
     AllFiles,
-    /// The files and collections of one user.
+    /// The files and collections of the whole server, without the roots of its users.
     Nodes,
     /// The files and collections in one collection.
     Children,
