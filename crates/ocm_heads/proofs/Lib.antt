@@ -1,4 +1,5 @@
 pub mod Digits
+pub mod EmptyLines
 pub mod Heads
 pub mod Looks
 pub mod Values

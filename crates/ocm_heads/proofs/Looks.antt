@@ -68,10 +68,10 @@ further_whole (Whole k) n h = (k, refl, let e : 1 + k ≡ n = cc in omega arith)
 further_whole (TooLong bare) n h = cc
 further_whole Unfinished n h = cc
 
-allowed_size : (look : Look) (b : ℕ) → passes look b ≡ false → 0 < look.size
+pub allowed_size : (look : Look) (b : ℕ) → passes look b ≡ false → 0 < look.size
 allowed_size look b h = grind (arith, nat_tests)
 
-allowed_lines : (look : Look) (b : ℕ) → passes look b ≡ false → cond (nat_eq b 10) 1 0 + (stepped look b).lines ≤ look.lines
+pub allowed_lines : (look : Look) (b : ℕ) → passes look b ≡ false → cond (nat_eq b 10) 1 0 + (stepped look b).lines ≤ look.lines
 allowed_lines look b h = grind (arith, nat_tests)
 
 within_step : (look : Look) (b : ℕ) (x : List ℕ) (n k : ℕ) → passes look b ≡ false → n ≡ suc k → Within (stepped look b) x k → Within look (b ∷ x) n

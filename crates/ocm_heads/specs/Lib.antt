@@ -1,4 +1,5 @@
 pub mod ChunkLines
+pub mod EmptyLines
 pub mod Endings
 pub mod Heads
 pub mod Lengths

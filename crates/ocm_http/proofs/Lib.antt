@@ -2,6 +2,12 @@ pub mod Pieces
 pub mod BodySteps
 pub mod LineSteps
 pub mod HeadSteps
+pub mod HeadLines
+pub mod Values
+pub mod WrittenHeads
+pub mod ReadRequests
+pub mod ReadReplies
+pub mod ReadStreams
 pub mod UnderWay
 pub mod Stable
 pub mod Unique

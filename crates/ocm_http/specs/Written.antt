@@ -48,12 +48,15 @@ with_close text = with_field text (codes "Connection") (codes "close")
 abbrev pub request_line : List ℕ → List ℕ → List ℕ → List ℕ
 request_line host method target = with_field (method ++ codes " " ++ target ++ codes " HTTP/1.1" ++ line_end) (codes "Host") host
 
--- a request: its line, its host, credentials where there are some, what its method wants, the body's length, that the
--- connection closes, an empty line and the body
+-- a request's head: its line, its host, credentials where there are some, what its method wants, the length of a body of
+-- so many bytes, that the connection closes, and an empty line
+abbrev pub request_head : List ℕ → List ℕ → List ℕ → Option (List ℕ) → ℕ → List ℕ
+request_head host method target secret n =
+    with_close (with_length (with_type (with_depth (with_credentials (request_line host method target) secret) method) method) n) ++ line_end
+
+-- a request: its head and its body
 abbrev pub written_request : List ℕ → List ℕ → List ℕ → Option (List ℕ) → List ℕ → List ℕ
-written_request host method target secret body =
-    with_close (with_length (with_type (with_depth (with_credentials (request_line host method target) secret) method) method) (length body))
-    ++ line_end ++ body
+written_request host method target secret body = request_head host method target secret (length body) ++ body
 
 -- the phrase of a status
 abbrev pub phrase_of : Option (List ℕ) → List ℕ
@@ -71,12 +74,15 @@ with_length_unless_empty text status n = if status == 204 then text else with_le
 abbrev pub with_close_if : List ℕ → Bool → List ℕ
 with_close_if text closing = if closing then with_close text else text
 
--- a reply: its line, its fields, the body's length, whether the connection closes, an empty line and the body, which is
--- left away where it answers a HEAD
+-- a reply's head: its line, its fields, the length of a body of so many bytes, whether the connection closes, and an empty
+-- line
+abbrev pub reply_head : ℕ → List Field → ℕ → Bool → List ℕ
+reply_head status fields n closing =
+    with_close_if (with_length_unless_empty (with_fields (status_line status) fields) status n) closing ++ line_end
+
+-- a reply: its head and its body, which is left away where it answers a HEAD
 abbrev pub written_reply : ℕ → List Field → List ℕ → Bool → Bool → List ℕ
-written_reply status fields body bodyless closing =
-    with_close_if (with_length_unless_empty (with_fields (status_line status) fields) status (length body)) closing
-    ++ line_end ++ (if bodyless then [] else body)
+written_reply status fields body bodyless closing = reply_head status fields (length body) closing ++ (if bodyless then [] else body)
 
 -- what ends a reply that has no body and closes
 abbrev pub closed_without_body : List ℕ

@@ -1,4 +1,5 @@
 ghost use Rattle.ocm_http.specs.Laws.{FirstOfStream, MoreChangesNothing, OneFrame};
+ghost use Rattle.ocm_http.specs.ReadBack.{RequestsAreReadBack, RepliesAreReadBack, StreamOfMessages, FixedAreWritten};
 
 /// Once bytes are a message or a fault, more bytes behind them change nothing: so it doesn't matter in which pieces a
 /// stream comes.
@@ -14,4 +15,26 @@ pub fn bytes_are_one_frame()
 /// A message that was read is the first of its stream's, and those of what follows it are the rest.
 pub fn message_is_first_of_stream()
     ensures { FirstOfStream }
+{}
+
+/// A request that was written is read back as the request that it is: its method, its target, the fields that were
+/// written and the body. It has to be within the reader's limits.
+pub fn written_request_is_read_back()
+    ensures { RequestsAreReadBack }
+{}
+
+/// A reply that was written is read back as the reply that it is: its status, its fields and the body. It has to be
+/// within the reader's limits, and no field that it was given may tell a length.
+pub fn written_reply_is_read_back()
+    ensures { RepliesAreReadBack }
+{}
+
+/// Messages that are read back, written one behind another, are the stream of these messages.
+pub fn written_messages_are_a_stream()
+    ensures { StreamOfMessages }
+{}
+
+/// The fixed replies are written replies, with no field of their own and no body, and close their connection.
+pub fn fixed_replies_are_written_replies()
+    ensures { FixedAreWritten }
 {}

@@ -1,4 +1,4 @@
-ghost use Rattle.std.specs.Prelude.{◌≡◌, ◌<◌, ◌≤◌, ◌==◌, [], ◌++◌, ◌⊎◌, length, drop, IfOk, IfSome, OnOk, OnErr, true, false, Ok};
+ghost use Rattle.std.specs.Prelude.{◌≡◌, ◌<◌, ◌≤◌, ◌==◌, [], ◌++◌, ◌⊎◌, length, take, drop, IfOk, IfSome, OnOk, OnErr, true, false, Ok};
 ghost use Rattle.ocm_base.specs.Outside.{Rose, Takes};
 
 use ocm_base::{Failed, NoMemory, Source};
@@ -78,7 +78,7 @@ impl Window {
     {
         self.from = 0;
         self.to = 0;
-        self.to = source.read(self.bytes.as_mut_slice())?;
+        self.to = read_few(source, self.bytes.as_mut_slice())?;
         Ok(())
     }
 
@@ -98,4 +98,18 @@ impl Window {
         self.fill(source)?;
         Ok(!self.is_empty())
     }
+}
+
+/// Reads from a source, into room for at most 4,096 bytes: no other function reads from one.
+fn read_few<S: Source>(source: &mut S, room: &mut [u8]) -> Result<usize, Failed>
+    requires some { 0 < length room.old }
+    requires few { length room.old ≤ 4096 }
+    ensures within { IfOk result (λ n. n ≤ length room.old) }
+    ensures taken { IfOk result (λ n. Takes (S.left source.old) (S.left source.new) (take n room.new)) }
+    ensures ended { IfOk result (λ n. n ≡ 0 → IfSome (S.left source.new) (λ rest. rest ≡ [])) }
+    ensures err { OnErr result (S.left source.new ≡ S.left source.old) }
+    ensures rose { OnErr result (Rose (S.faults source.old) (S.faults source.new)) }
+    ensures never_falls { S.faults source.old ≤ S.faults source.new }
+{
+    source.read(room)
 }

@@ -1,7 +1,9 @@
-ghost use Rattle.std.specs.Prelude.{◌≡◌, ◌<◌, ◌≤◌, option_copied, string_bytes, IfOk, OnOk, OnErr, IsSome};
+ghost use Rattle.std.specs.Prelude.{◌≡◌, ◌<◌, ◌≤◌, option_copied, string_bytes, IfOk, IfSome, OnOk, OnErr, IsSome, IsTrue};
 ghost use Rattle.http.specs.StatusCode.{reason_phrase};
 ghost use Rattle.ocm_base.specs.Outside.{Rose, Appends, AppendsPart};
+ghost use Rattle.ocm_types.specs.Hosts.{is_host};
 ghost use Rattle.ocm_http.specs.Written as written;
+ghost use Rattle.ocm_http.specs.ReadBack as back;
 
 use base64::engine::general_purpose::STANDARD;
 use http::StatusCode;
@@ -40,7 +42,8 @@ fn add_fields(text: &mut Bytes, fields: &[Field]) -> Result<(), NoMemory>
 
 /// The basic credentials of a secret.
 fn basic(alloc: Global, secret: &str) -> Result<String, NoMemory>
-    ensures { IfOk result (λ s. string_bytes s ≡ written.basic secret.now) }
+    ensures written { IfOk result (λ s. string_bytes s ≡ written.basic secret.now) }
+    ensures bytes { OnOk result (back.AreBytes secret.now) }
 {
     let mut plain = String::from_str(alloc, secret)?;
     plain.push_str(":")?;
@@ -50,7 +53,8 @@ fn basic(alloc: Global, secret: &str) -> Result<String, NoMemory>
 }
 
 fn add_credentials(alloc: Global, text: &mut Bytes, auth: Option<&Secret>) -> Result<(), NoMemory>
-    ensures { OnOk result (text.new ≡ written.with_credentials text.old (option_copied auth.entry)) }
+    ensures written { OnOk result (text.new ≡ written.with_credentials text.old (option_copied auth.entry)) }
+    ensures bytes { OnOk result (IfSome (option_copied auth.entry) back.AreBytes) }
 {
     if let Some(secret) = auth {
         let credentials = basic(alloc, secret.as_str())?;
@@ -86,14 +90,15 @@ fn add_length(alloc: Global, text: &mut Bytes, n: usize) -> Result<(), NoMemory>
 }
 
 fn request_line(alloc: Global, host: &Host, method: &str, target: &str) -> Result<Bytes, NoMemory>
-    ensures { IfOk result (λ t. t ≡ written.request_line host.now method.now target.now) }
+    ensures written { IfOk result (λ t. t ≡ written.request_line host.now method.now target.now) }
+    ensures host { OnOk result (IsTrue (is_host host.now)) }
 {
     let mut text = Bytes::of(alloc, method.as_bytes())?;
     text.add(b" ")?;
     text.add(target.as_bytes())?;
     text.add(b" HTTP/1.1")?;
     text.add(b"\r\n")?;
-    add_field(&mut text, "Host", host.as_str().as_bytes())?;
+    add_field(&mut text, "Host", host.text().as_str().as_bytes())?;
     Ok(text)
 }
 
@@ -106,7 +111,8 @@ pub fn write_request(
     auth: Option<&Secret>,
     body: &Bytes,
 ) -> Result<Bytes, NoMemory>
-    ensures { IfOk result (λ t. t ≡ written.written_request host.now method.now target.now (option_copied auth.entry) body.now) }
+    ensures written { IfOk result (λ t. t ≡ written.written_request host.now method.now target.now (option_copied auth.entry) body.now) }
+    ensures read_back { IfOk result (back.RequestIsReadBack host.now method.now target.now (option_copied auth.entry) body.now) }
 {
     let mut text = request_line(alloc, host, method, target)?;
     add_credentials(alloc, &mut text, auth)?;
@@ -177,7 +183,8 @@ pub fn write_reply(
 ) -> Result<Bytes, NoMemory>
     requires code { (100 ≤ status) × (status < 1000) }
     requires phrase { IsSome (reason_phrase status) }
-    ensures { IfOk result (λ t. t ≡ written.written_reply status fields.now body.now bodyless closing) }
+    ensures written { IfOk result (λ t. t ≡ written.written_reply status fields.now body.now bodyless closing) }
+    ensures read_back { IfOk result (back.ReplyIsReadBack status fields.now body.now bodyless closing) }
 {
     let mut text = status_line(alloc, status)?;
     add_fields(&mut text, fields.as_slice())?;
