@@ -60,3 +60,35 @@ offer d = do
   _ ← required d fields.ResourceType resource
   access ← access d
   Ok (record { with = with; name = name; id = id; owner = owner; sender = sender; secret = access.0; perms = access.1 })
+
+-- the same rows in four groups, one after another
+
+-- with whom, and the name
+unfoldable pub recipient : Data → Result (Address × List ℕ) RecordFault
+recipient d = do
+  with ← required d fields.ShareWith address
+  name ← required d fields.Name share_name
+  Ok (with, name)
+
+-- the owner's mark, the owner and the sender
+unfoldable pub origin : Data → Result (List ℕ × Address × Address) RecordFault
+origin d = do
+  id ← required d fields.ProviderId provider_id
+  owner ← required d fields.Owner address
+  sender ← sender_or owner d
+  Ok (id, owner, sender)
+
+-- the kinds of the recipient and of what is shared
+unfoldable pub kinds : Data → Result Bool RecordFault
+kinds d = do
+  _ ← required d fields.ShareType share_type
+  required d fields.ResourceType resource
+
+-- an offer, group by group
+unfoldable pub by_groups : Data → Result Offer RecordFault
+by_groups d = do
+  recipient ← recipient d
+  origin ← origin d
+  _ ← kinds d
+  access ← access d
+  Ok (record { with = recipient.0; name = recipient.1; id = origin.0; owner = origin.1; sender = origin.2; secret = access.0; perms = access.1 })

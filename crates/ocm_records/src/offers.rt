@@ -12,7 +12,7 @@ use crate::kinds::{
 };
 use crate::opening::fields_of;
 use ocm_json::FieldsRef;
-use ocm_types::{Address, Offer, Perms, Rights, Secret};
+use ocm_types::{Address, Offer, Perms, ProviderId, Rights, Secret, ShareName};
 use std::alloc::Global;
 
 /// Reads an offer: the body of POST to `{endPoint}/shares` (Open Cloud Mesh API 1.1). The forms `webdav` and `multi` of its
@@ -88,18 +88,47 @@ fn sender_or(alloc: Global, owner: &Address, fields: FieldsRef<'_>) -> Result<Ad
     }
 }
 
-#[tactic(auto, unfolding(crate::specs::Offers::offer))]
-fn offer(alloc: Global, fields: FieldsRef<'_>) -> Result<Offer, RecordFault>
-    ensures { Gives (λ o. o) result (offers.offer (data_at fields.entry)) }
+/// With whom it is shared, and under which name.
+#[tactic(auto, unfolding(crate::specs::Offers::recipient))]
+fn recipient(alloc: Global, fields: FieldsRef<'_>) -> Result<(Address, ShareName), RecordFault>
+    ensures { Gives (λ x. (x.0, x.1)) result (offers.recipient (data_at fields.entry)) }
 {
     let with = some_address(alloc, fields, Field::ShareWith)?;
     let name = share_name(alloc, fields, Field::Name)?;
+    Ok((with, name))
+}
+
+/// The owner's mark, the owner, and whose share it is that is passed on.
+#[tactic(auto, unfolding(crate::specs::Offers::origin))]
+fn origin(
+    alloc: Global,
+    fields: FieldsRef<'_>,
+) -> Result<(ProviderId, Address, Address), RecordFault>
+    ensures { Gives (λ x. (x.0, x.1, x.2)) result (offers.origin (data_at fields.entry)) }
+{
     let id = provider_id(alloc, fields, Field::ProviderId)?;
     let owner = some_address(alloc, fields, Field::Owner)?;
     let sender = sender_or(alloc, &owner, fields)?;
+    Ok((id, owner, sender))
+}
+
+/// The kinds of the recipient and of what is shared, which have to be there.
+#[tactic(auto, unfolding(crate::specs::Offers::kinds))]
+fn kinds(fields: FieldsRef<'_>) -> Result<bool, RecordFault>
+    ensures { Gives (λ b. b) result (offers.kinds (data_at fields.entry)) }
+{
     share_type(fields)?;
     let resource = resource_type(fields)?;
-    present(Field::ResourceType, resource)?;
+    present(Field::ResourceType, resource)
+}
+
+#[tactic(auto, unfolding(crate::specs::Offers::by_groups))]
+fn offer(alloc: Global, fields: FieldsRef<'_>) -> Result<Offer, RecordFault>
+    ensures { Gives (λ o. o) result (offers.by_groups (data_at fields.entry)) }
+{
+    let (with, name) = recipient(alloc, fields)?;
+    let (id, owner, sender) = origin(alloc, fields)?;
+    kinds(fields)?;
     let (secret, perms) = access(alloc, fields)?;
     Ok(Offer {
         with,
