@@ -29,6 +29,7 @@ module _ {T G : Type 0} (terms_of : T → G) (stands : T → List Entry → List
         limit_is = f.limit_is;
         base_is = f.base_is;
         terms_are = f.terms_are;
+        met = f.met;
         seen = f.seen;
         heard = f.heard;
         mine = f.mine;
@@ -42,6 +43,7 @@ module _ {T G : Type 0} (terms_of : T → G) (stands : T → List Entry → List
         limit_is = old.limit_is;
         base_is = old.base_is;
         terms_are = old.terms_are;
+        met = old.met;
         seen = old.seen;
         heard = old.heard;
         mine = old.mine;
@@ -70,7 +72,7 @@ module _ {T G : Type 0} (terms_of : T → G) (stands : T → List Entry → List
   -- a new word 0 and view
   moved : (terms : G) (s : State (Option T) (View G)) (k : Kept terms_of stands legal limit terms s) (n id : ℕ) (held : List (ℕ × Option T)) (w : View G)
       → Rule terms_of stands legal limit terms k.base k.history n s.homes (set s.views id w) → Kept terms_of stands legal limit terms (stepped s 0 n id held w keeps)
-  moved terms s k n id held w rule = record { base = k.base; history = k.history; next = n; words = ap (λ (ws : List ℕ). set ws 0 n) k.words; rule = rule }
+  moved terms s k n id held w rule = record { base = k.base; history = k.history; next = n; bells = k.bells; words = ap (λ (ws : List ℕ). set ws 0 n) k.words; rule = rule }
 
   pub draws_keep : (value : T) (n slots id : ℕ) (me : Me (Option T) (View G)) → n ≤ limit → IsIdle me.0
       → Allows (Holds terms_of stands legal limit value) slots id me 0 (λ x. either (eqb x n) (n + 1) x) (draws (step slots 0 n (n + 1) home.none) me)
@@ -108,6 +110,7 @@ module _ {T G : Type 0} (terms_of : T → G) (stands : T → List Entry → List
               limit_is = old.limit_is;
               base_is = old.base_is;
               terms_are = old.terms_are;
+              met = old.met;
               seen = old.seen;
               heard = old.heard;
               mine = old.mine;

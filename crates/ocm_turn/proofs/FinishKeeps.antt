@@ -44,6 +44,7 @@ module _ {T G : Type 0} (terms_of : T → G) (stands : T → List Entry → List
       limit_is = old.limit_is;
       base_is = old.base_is;
       terms_are = old.terms_are;
+      met = old.met;
       seen = ([], ap (λ (l : List Entry). e ∷ l) (sym all));
       heard = longer_by v.heard v.seen e old.heard;
       mine = (ap (entry_at (e ∷ v.seen)) place_is ∙ at_front v.seen e, stand_one v.seen v.mine e old.mine);
@@ -59,6 +60,7 @@ module _ {T G : Type 0} (terms_of : T → G) (stands : T → List Entry → List
       limit_is = f.limit_is;
       base_is = f.base_is;
       terms_are = f.terms_are;
+      met = f.met;
       seen = longer_by u.seen history e f.seen;
       heard = f.heard;
       mine = f.mine;
@@ -130,11 +132,11 @@ module _ {T G : Type 0} (terms_of : T → G) (stands : T → List Entry → List
       let rule = went terms k.base k.history k.next s.homes s.views id v e h at on named x empty agreed st' ok' in
       let fits : Fits limit terms k.base (e ∷ k.history) k.next w = rule.each id w (here_again s.views id v w at) in
       let up : (n + 1) % 2 ^ 64 ≡ suc (length k.history) = mod-eq_of_lt (omega (arith, is_done, below, bounded, small)) ∙ omega (arith, is_done) in
-      let words : set s.words 1 ((n + 1) % 2 ^ 64) ≡ k.next ∷ suc (length k.history) ∷ [] = ap (set s.words 1) up ∙ ap (λ (ws : List ℕ). set ws 1 (suc (length k.history))) k.words in (
+      let words : set s.words 1 ((n + 1) % 2 ^ 64) ≡ k.next ∷ suc (length k.history) ∷ k.bells = ap (set s.words 1) up ∙ ap (λ (ws : List ℕ). set ws 1 (suc (length k.history))) k.words in (
         w,
         gives,
         tt,
         inr (subst (λ (c : List (ℕ × Option T)). K (stepped s 1 ((n + 1) % 2 ^ 64) id c w gives)) (sym holding)
-            record { base = k.base; history = e ∷ k.history; next = k.next; words = words; rule = rule }),
+            record { base = k.base; history = e ∷ k.history; next = k.next; bells = k.bells; words = words; rule = rule }),
         (refl, refl, sound_of limit terms k.base (e ∷ k.history) k.next w fits, length_in_order w.mine (length w.seen) fits.order (stand_below w.seen w.mine fits.mine)),
       )

@@ -33,6 +33,7 @@ module _ {T G : Type 0} (terms_of : T → G) (stands : T → List Entry → List
       limit_is = λ e. absurd (spent_named e);
       base_is = λ e. absurd (spent_named e);
       terms_are = λ e. absurd (spent_named e);
+      met = (refl, refl);
       seen = (history, sym (append-nil history));
       heard = older_self [];
       mine = tt;
@@ -53,6 +54,7 @@ module _ {T G : Type 0} (terms_of : T → G) (stands : T → List Entry → List
           limit_is = a.limit_is;
           base_is = a.base_is;
           terms_are = a.terms_are;
+          met = (b.base_is idle.2 ∙ sym (a.base_is quiet.2), b.terms_are idle.2 ∙ sym (a.terms_are quiet.2));
           seen = longer_either (λ l. IsOlderPart l history) v.seen w.seen a.seen b.seen;
           heard = shorter_longer v.seen w.seen history a.seen b.seen;
           mine = each_merged (λ x. entry_at both.seen x.place ≡ Some x.entry) v.mine w.mine
@@ -122,6 +124,7 @@ module _ {T G : Type 0} (terms_of : T → G) (stands : T → List Entry → List
         base = k.base;
         history = k.history;
         next = k.next;
+        bells = k.bells;
         words = k.words;
         rule = subst (Rule terms_of stands legal limit terms k.base k.history k.next s.homes) (set_swap s.views other id spent_view (joined v w) apart)
             (into_one terms k.base k.history k.next s.homes s.views id other v w k.rule at at2 apart quiet idle);

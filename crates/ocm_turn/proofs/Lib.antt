@@ -7,3 +7,5 @@ pub mod FinishKeeps
 pub mod SplitKeeps
 pub mod JoinKeeps
 pub mod NameKeeps
+pub mod RingKeeps
+pub mod PassLemmas

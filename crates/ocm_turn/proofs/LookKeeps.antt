@@ -24,6 +24,7 @@ module _ {T G : Type 0} (terms_of : T → G) (stands : T → List Entry → List
     limit_is = old.limit_is;
     base_is = old.base_is;
     terms_are = old.terms_are;
+    met = old.met;
     seen = older_self history;
     heard = older_self history;
     mine = stand_older v.seen history v.mine old.seen old.mine;
@@ -72,7 +73,7 @@ module _ {T G : Type 0} (terms_of : T → G) (stands : T → List Entry → List
       let K : State (Option T) (View G) → Type 0 = Kept terms_of stands legal limit terms in
       let x : ℕ = get_or s.words 1 0 in
       let is_done : x ≡ length k.history = ap (λ (ws : List ℕ). get_or ws 1 0) k.words in
-      let words_stay : set s.words 1 x ≡ k.next ∷ length k.history ∷ [] = ap (set s.words 1) is_done ∙ ap (λ (ws : List ℕ). set ws 1 (length k.history)) k.words in
+      let words_stay : set s.words 1 x ≡ k.next ∷ length k.history ∷ k.bells = ap (set s.words 1) is_done ∙ ap (λ (ws : List ℕ). set ws 1 (length k.history)) k.words in
       let v : View G = me.0 in
       let h = k.rule in
       let old = h.each id v at in
@@ -90,7 +91,7 @@ module _ {T G : Type 0} (terms_of : T → G) (stands : T → List Entry → List
         w,
         takes 0 (Some f.0),
         ap (λ (hs : List (home.Option (Option T))). get_elem? hs 0) f.1,
-        inr record { base = k.base; history = k.history; next = k.next; words = words_stay; rule = came terms k.base k.history k.next s.homes s.views id v f.0 h at has named f.1 },
+        inr record { base = k.base; history = k.history; next = k.next; bells = k.bells; words = words_stay; rule = came terms k.base k.history k.next s.homes s.views id v f.0 h at has named f.1 },
         (
           (λ _. (
             f.0,
@@ -113,7 +114,7 @@ module _ {T G : Type 0} (terms_of : T → G) (stands : T → List Entry → List
         keeps,
         tt,
         inr (subst (λ (vs : List (View G)). K record { words = set s.words 1 x; homes = s.homes; views = vs }) (sym (set_again s.views id v at))
-            record { base = k.base; history = k.history; next = k.next; words = words_stay; rule = h }),
+            record { base = k.base; history = k.history; next = k.next; bells = k.bells; words = words_stay; rule = h }),
         ((λ hit. absurd (miss hit)), (λ _. refl), sound_of limit terms k.base k.history k.next v old, small),
       ) in
       elim (v.ticket) as (λ o. v.ticket ≡ o → Goal) [

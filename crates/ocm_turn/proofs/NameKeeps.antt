@@ -21,6 +21,7 @@ module _ {T G : Type 0} (terms_of : T → G) (stands : T → List Entry → List
     limit_is = λ _. refl;
     base_is = λ _. refl;
     terms_are = λ _. refl;
+    met = (refl, refl);
     seen = older_self [];
     heard = older_self [];
     mine = tt;
@@ -54,7 +55,7 @@ module _ {T G : Type 0} (terms_of : T → G) (stands : T → List Entry → List
       let fresh : get_elem? s.views id ≡ home.some (newcomer limit terms) = at ∙ ap (λ (m : Me (Option T) (View G)). home.some m.0) new in
       ⊎_elim (λ (o : Opened terms_of stands legal limit terms value s).
       let is_first : id ≡ 0 = (alone id (newcomer limit terms) (newcomer limit terms) (ap (λ (vs : List (View G)). get_elem? vs id) (sym o.views) ∙ fresh)).1 in
-      let words : set s.words 0 (get_or s.words 0 0) ≡ 0 ∷ 0 ∷ [] = ap (λ (ws : List ℕ). set ws 0 (get_or ws 0 0)) o.words in
+      let words : set s.words 0 (get_or s.words 0 0) ≡ 0 ∷ 0 ∷ o.bells = ap (λ (ws : List ℕ). set ws 0 (get_or ws 0 0)) o.words in
       let views : set s.views id w ≡ w ∷ [] = ap (λ (z : List (View G) × ℕ). set z.0 z.1 w) (λ i. (o.views i, is_first i)) in (
         w,
         keeps,
@@ -63,6 +64,7 @@ module _ {T G : Type 0} (terms_of : T → G) (stands : T → List Entry → List
           base = base;
           history = [];
           next = 0;
+          bells = o.bells;
           words = words;
           rule = subst (λ (vs : List (View G)). Rule terms_of stands legal limit terms base [] 0 s.homes vs) (sym views) (opened value base s.homes o.homes st ok);
         },

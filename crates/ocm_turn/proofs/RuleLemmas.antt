@@ -16,7 +16,7 @@ use Rattle.ocm_turn.proofs.ViewLemmas.{alone, new_named, some_set, each_set, one
 
 module _ {G : Type 0} (limit : ℕ) (terms : G) (base history : List Entry) (next : ℕ) (v : View G) (fits : Fits limit terms base history next v) where
   pub sound_of : Sound v
-  sound_of = record { heard = fits.heard; mine = fits.mine; order = fits.order }
+  sound_of = record { heard = fits.heard; mine = fits.mine; order = fits.order; met = fits.met }
 
   -- a view has no more calls than the history
   pub few : length v.mine ≤ length history

@@ -40,6 +40,7 @@ module _ {T G : Type 0} (terms_of : T → G) (stands : T → List Entry → List
         base = k.base;
         history = k.history;
         next = k.next;
+        bells = k.bells;
         words = k.words;
         rule = subst (λ (vs : List (View G)). Rule terms_of stands legal limit terms k.base k.history k.next s.homes (vs ++ beside v ∷ [])) (sym (set_again s.views id v at))
             (added terms k.base k.history k.next s.homes s.views (beside v) k.rule refl refl refl record {
@@ -47,6 +48,7 @@ module _ {T G : Type 0} (terms_of : T → G) (stands : T → List Entry → List
               limit_is = old.limit_is;
               base_is = old.base_is;
               terms_are = old.terms_are;
+              met = old.met;
               seen = old.seen;
               heard = old.heard;
               mine = tt;

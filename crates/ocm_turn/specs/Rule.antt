@@ -1,5 +1,5 @@
 -- The rule that the turnstile's table keeps between any two steps.
--- Word 0 is the next ticket, word 1 the number of calls done, and slot 0 holds the value or nothing. A seat's number is its place among the views.
+-- Word 0 is the next ticket, word 1 the number of calls done, and slot 0 holds the value or nothing. On the words after these, the bells, callers sleep: the rule says nothing of them. A seat's number is its place among the views.
 use Rattle.std.specs.Prelude.{◌≡◌, ◌≢◌, ℕ, ◌+◌, ◌<◌, ◌≤◌, List, [], ◌∷◌, length, true, false, Option, Some, None, ◌⊎◌}
 use mathlib.Core.Option as home
 use lib.ListN.{get_elem?}
@@ -11,11 +11,11 @@ use Rattle.ocm_turn.specs.Calls.{IsOlderPart, StandIn, InOrder, Disjoint}
 
 -- the view of the first seat, before its base is named
 abbrev pub newcomer : {G : Type 0} → ℕ → G → View G
-newcomer limit terms = record { stage = New; limit = limit; terms = Some terms; base = []; seen = []; heard = []; mine = []; ticket = None; turn = false; drawn = 0 }
+newcomer limit terms = record { stage = New; limit = limit; terms = Some terms; base = []; seen = []; heard = []; mine = []; met_base = []; met_terms = Some terms; ticket = None; turn = false; drawn = 0 }
 
 -- the view of a seat that was joined to another
 abbrev pub spent_view : {G : Type 0} → View G
-spent_view = record { stage = Spent; limit = 0; terms = None; base = []; seen = []; heard = []; mine = []; ticket = None; turn = false; drawn = 0 }
+spent_view = record { stage = Spent; limit = 0; terms = None; base = []; seen = []; heard = []; mine = []; met_base = []; met_terms = None; ticket = None; turn = false; drawn = 0 }
 
 -- no ticket in hand
 abbrev pub IsIdle : {G : Type 0} → View G → Type 0
@@ -27,6 +27,7 @@ pub record Fits {G : Type 0} (limit : ℕ) (terms : G) (base history : List Entr
   pub limit_is : v.stage ≡ Named → v.limit ≡ limit
   pub base_is : v.stage ≡ Named → v.base ≡ base
   pub terms_are : v.stage ≡ Named → v.terms ≡ Some terms
+  pub met : (v.met_base ≡ v.base) × (v.met_terms ≡ v.terms)
   pub seen : IsOlderPart v.seen history
   pub heard : IsOlderPart v.heard v.seen
   pub mine : StandIn v.seen v.mine
@@ -75,12 +76,14 @@ module _ {T G : Type 0} (terms_of : T → G) (stands : T → List Entry → List
     pub base : List Entry
     pub history : List Entry
     pub next : ℕ
-    pub words : s.words ≡ next ∷ length history ∷ []
+    pub bells : List ℕ
+    pub words : s.words ≡ next ∷ length history ∷ bells
     pub rule : Rule base history next s.homes s.views
 
   -- the table just opened, before the base is named
   pub record Opened (value : T) (s : State (Option T) (View G)) : Type 0 where
-    pub words : s.words ≡ 0 ∷ 0 ∷ []
+    pub bells : List ℕ
+    pub words : s.words ≡ 0 ∷ 0 ∷ bells
     pub homes : s.homes ≡ home.some (Some value) ∷ []
     pub views : s.views ≡ newcomer limit terms ∷ []
 

@@ -9,7 +9,7 @@ use Rattle.ocm_turn.specs.Calls.{IsOlderPart, StandIn, InOrder, call, merged, lo
 module _ {G : Type 0} where
   -- the base is named
   abbrev pub named : View G → List Entry → View G
-  named v base = record v { stage = Named; base = base }
+  named v base = record v { stage = Named; base = base; met_base = base }
 
   -- a ticket was drawn
   abbrev pub ticketed : View G → ℕ → View G
@@ -41,13 +41,14 @@ module _ {G : Type 0} where
 
   -- both seats in one
   abbrev pub joined : View G → View G → View G
-  joined v w = record v { seen = longer v.seen w.seen; heard = shorter v.seen w.seen; mine = merged v.mine w.mine; drawn = max v.drawn w.drawn }
+  joined v w = record v { seen = longer v.seen w.seen; heard = shorter v.seen w.seen; mine = merged v.mine w.mine; met_base = w.base; met_terms = w.terms; drawn = max v.drawn w.drawn }
 
   -- what the rule says of a view by itself
   pub record Sound (v : View G) : Type 0 where
     pub heard : IsOlderPart v.heard v.seen
     pub mine : StandIn v.seen v.mine
     pub order : InOrder v.mine
+    pub met : (v.met_base ≡ v.base) × (v.met_terms ≡ v.terms)
 
 module _ {T G : Type 0} where
   -- the base is named, at a load of word 0: one of which this is known
@@ -57,6 +58,10 @@ module _ {T G : Type 0} where
   -- a try to draw a ticket, by an exchange of word 0
   abbrev pub draws : Step (Option T) → Me (Option T) (View G) → ℕ → Me (Option T) (View G) → Type 0
   draws st m r m' = (m'.1 ≡ m.1) × (m.0.drawn ≤ r) × (r ≡ st.first → m'.0 ≡ ticketed m.0 r) × (r ≢ st.first → m'.0 ≡ found_at m.0 r)
+
+  -- a ring of a bell changes nothing else
+  abbrev pub rings : Step (Option T) → Me (Option T) (View G) → ℕ → Me (Option T) (View G) → Type 0
+  rings st m r m' = m' ≡ m
 
   -- a look at word 1 whose turn has come takes the slot
   abbrev pub looks : (T → G) → (T → List Entry → List Entry → Type 0) → (G → List Entry → List Entry → Type 0) → Step (Option T) → Me (Option T) (View G) → ℕ → Me (Option T) (View G) → Type 0

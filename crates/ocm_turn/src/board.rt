@@ -6,7 +6,7 @@ ghost use Rattle.ocm_turn.specs.Rule.{newcomer, IsIdle};
 ghost use Rattle.ocm_turn.specs.Steps.{named, ticketed, found_at, turned_to, finished, called, IsLegal, beside, joined, Sound};
 ghost use Rattle.ocm_turn.specs.declared.view.Stage.TheVariants.{Named};
 
-use crate::rule::{Cut, Draw, Finish, Founded, Glue, Law, Look, Name, Start, Told};
+use crate::rule::{Cut, Draw, Finish, Founded, Glue, Law, Look, Name, Ring, Start, Told};
 use crate::turnstile::Spent;
 use crate::view::View;
 use atomic_table::{Seat, Table};
@@ -20,11 +20,22 @@ use std::sync::Wait;
 const NEXT: usize = 0;
 /// Word 1: the number of calls done.
 const DONE: usize = 1;
+/// The first of the bells, the words on which callers sleep. Nothing but a wake hangs on them.
+const BELLS: usize = 2;
+/// How many bells there are. Up to so many callers have each a bell of its own.
+const BELL_COUNT: u64 = 64;
 /// The slot of the value.
 const VALUE: usize = 0;
 
 /// A seat at the table behind a turnstile.
 pub type Place<T: Object> = Seat<Option<T>, View<T::Terms>>;
+
+/// The word on which the caller with this ticket sleeps.
+fn bell_of(ticket: u64) -> usize
+    ensures { (2 ≤ result) × (result < 66) }
+{
+    BELLS + (ticket % BELL_COUNT) as usize
+}
 
 /// The table behind a turnstile, with the steps that keep its rule.
 #[derive(Drop)]
@@ -32,7 +43,7 @@ pub struct Board<T: Object> {
     table: Table<Option<T>, View<T::Terms>, Start<T>, Law<T>, Global>,
     limit: u64,
     ghost limits: { (table.shared.key.limit ≡ limit) × (1 ≤ limit) × (limit ≤ 2 ^ 63) },
-    ghost counts: { (table.shared.table_id.words ≡ 2) × (table.shared.table_id.slots ≡ 1) },
+    ghost counts: { (table.shared.table_id.words ≡ 66) × (table.shared.table_id.slots ≡ 1) },
 }
 
 impl<T: Object> Board<T> {
@@ -53,7 +64,7 @@ impl<T: Object> Board<T> {
         if let Err(failed) = slots.push(Some(value)) {
             return Err(failed.value.unwrap());
         }
-        match Table::new(alloc, &[0, 0], slots, &about) {
+        match Table::new(alloc, &[0; 66], slots, &about) {
             Ok((table, mut seat)) => {
                 let board = Board { table, limit };
                 board.name::<Brand>(&mut seat);
@@ -103,6 +114,7 @@ impl<T: Object> Board<T> {
         requires own { (seat.old.table_id ≡ self.now.table.shared.table_id) × IsIdle seat.old.me.0 × (seat.old.me.1 ≡ []) }
         ensures own { (seat.new.table_id ≡ seat.old.table_id) × (seat.new.me.1 ≡ []) }
         ensures ticket { seat.new.me.0 ≡ ticketed seat.old.me.0 result }
+        ensures limit { result ≤ self.now.limit }
     {
         for _ in rt.forever() {
             let next = self.table.shared.peek(NEXT).min(self.limit);
@@ -128,13 +140,14 @@ impl<T: Object> Board<T> {
         ensures sound { Sound seat.new.me.0 }
     {
         for _ in rt.forever() {
+            let rung = self.table.shared.peek(bell_of(ticket));
             let done = self.table.shared.load::<Look>(seat, DONE);
             if done == ticket {
                 return;
             }
             self.table
                 .shared
-                .park(rt, DONE, (done & 0xffff_ffff) as u32);
+                .park(rt, bell_of(ticket), (rung & 0xffff_ffff) as u32);
         }
         unreachable!()
     }
@@ -168,10 +181,21 @@ impl<T: Object> Board<T> {
         ensures sound { Sound seat.new.me.0 × (length seat.new.me.0.mine ≤ length seat.new.me.0.seen) }
     {
         let done = self.table.shared.fetch_add::<Finish<E>>(seat, DONE, 1);
+        let ticket = done.wrapping_add(1);
         // Whoever draws a ticket after this look finds its turn at once, and does not sleep.
-        if self.table.shared.peek(NEXT) != done.wrapping_add(1) {
-            self.table.shared.wake_all(DONE);
+        if self.table.shared.peek(NEXT) != ticket {
+            self.ring(seat, ticket);
         }
+    }
+
+    /// Wakes the caller with this ticket. One that is about to sleep finds its bell rung, and does not.
+    fn ring(&self, seat: &mut Place<T>, ticket: u64)
+        requires own { (seat.old.table_id ≡ self.now.table.shared.table_id) × (seat.old.me.0.stage ≡ Named) }
+        ensures same { (seat.new.table_id ≡ seat.old.table_id) × (seat.new.me ≡ seat.old.me) }
+    {
+        let bell = bell_of(ticket);
+        self.table.shared.fetch_add::<Ring>(seat, bell, 1);
+        self.table.shared.wake_all(bell);
     }
 
     /// One call: draws a ticket, waits for its turn, and asks the value.
@@ -203,6 +227,7 @@ impl<T: Object> Board<T> {
         ensures history { (history : List Entry) × T.stands result.0 seat.me.0.base history × T.legal (T.terms result.0) seat.me.0.base history
             × IsOlderPart seat.me.0.seen history × (result.1 ≡ length history) × StandIn history seat.me.0.mine }
         ensures order { InOrder seat.me.0.mine }
+        ensures limit { result.1 ≤ self.now.limit }
     {
         let calls = self.draw_last(rt, &mut seat);
         self.wait_turn(rt, &mut seat, calls);

@@ -1,4 +1,5 @@
 ghost use Rattle.std.specs.Prelude.{◌≡◌, ◌≤◌, ◌^◌, length, true, is_some};
+ghost use Rattle.ocm_turn.specs.Calls.{StandIn, InOrder};
 
 use crate::board::Place;
 use ocm_entry::Object;
@@ -16,6 +17,7 @@ pub struct Pass<T: Object> {
 
 impl<T: Object> Model for Pass<T> {
     ghost use Rattle.std.specs.Prelude.{◌≡◌, ◌≤◌, ◌^◌, length, [], true, is_some};
+    ghost use Rattle.ocm_turn.specs.Calls.{StandIn, InOrder};
     ghost use Rattle.ocm_turn.specs.Passes.{Known, the_some};
     ghost use Rattle.ocm_turn.specs.Rule.{IsIdle};
 
@@ -30,13 +32,16 @@ impl<T: Object> Model for Pass<T> {
       drawn = p.seat.me.0.drawn;
     } };
 
-    ghost invariant = { λ p. IsIdle p.seat.me.0 × (p.seat.me.1 ≡ []) × (length p.seat.me.0.mine ≡ p.calls) × (p.seat.me.0.limit ≤ 2 ^ 63) };
+    ghost invariant = { λ p. IsIdle p.seat.me.0 × (p.seat.me.1 ≡ []) × (length p.seat.me.0.mine ≡ p.calls) × (p.seat.me.0.limit ≤ 2 ^ 63)
+        × StandIn p.seat.me.0.seen p.seat.me.0.mine × InOrder p.seat.me.0.mine × T.legal (the_some p.seat.me.0.terms p.named) p.seat.me.0.base p.seat.me.0.seen };
 }
 
 impl<T: Object> Pass<T> {
     /// How many calls were made with this pass, and with those that were joined to it.
     pub fn calls(&self) -> u64
-        ensures { result ≡ length self.now.mine }
+        ensures number { result ≡ length self.now.mine }
+        ensures stand { StandIn self.now.seen self.now.mine × InOrder self.now.mine }
+        ensures legal { T.legal self.now.terms self.now.base self.now.seen }
     {
         self.calls
     }

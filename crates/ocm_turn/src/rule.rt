@@ -4,7 +4,7 @@ ghost use Rattle.ocm_entry.specs.declared.replies.Reply.TheVariants as replies;
 ghost use Rattle.ocm_entry.specs.declared.entries.Entry.{Entry};
 ghost use Rattle.ocm_turn.specs.Calls.{entry};
 ghost use Rattle.ocm_turn.specs.Rule.{Holds, newcomer, spent_view};
-ghost use Rattle.ocm_turn.specs.Steps.{names, draws, looks, finishes, beside, joined};
+ghost use Rattle.ocm_turn.specs.Steps.{names, draws, rings, looks, finishes, beside, joined};
 
 use crate::view::View;
 use atomic_table::{Join, Play, Split, TableRule};
@@ -54,6 +54,13 @@ pub struct Draw;
 
 impl<T, G> Play<Option<T>, View<G>> for Draw {
     ghost then = { draws };
+}
+
+/// A ring of a bell, for the caller that sleeps on it.
+pub struct Ring;
+
+impl<T, G> Play<Option<T>, View<G>> for Ring {
+    ghost then = { rings };
 }
 
 /// A look at the number of calls done.

@@ -278,3 +278,17 @@ fn makes_one_history_of_many_threads(rt: HostRuntime) -> Result<(), Fail> {
     }
     Ok(())
 }
+
+#[test]
+fn hands_the_value_back(rt: HostRuntime) -> Result<(), Fail> {
+    let alloc = rt.alloc();
+    let mut clocks = Vec::new(alloc);
+    clocks.push(7)?;
+    let value = match Turnstile::make::<Brand>(alloc, Log { clocks }, 5) {
+        Ok((turnstile, pass)) => turnstile.close(&rt, pass).value,
+        Err(value) => value,
+    };
+    assert_eq!(rt; value.clocks.len(), 1);
+    assert_eq!(rt; value.clocks.first().copied(), Some(7));
+    Ok(())
+}

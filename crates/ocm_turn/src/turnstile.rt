@@ -73,9 +73,9 @@ impl<T: Object> Turnstile<T> {
         ensures ground { SameGround pass.old pass.new }
         ensures seen { IfOk result (λ r. (before : List Entry) × (pass.new.seen ≡ entry ask r ∷ before)
             × IsOlderPart pass.old.seen before × (length before ≡ pass.new.drawn)) }
-        ensures legal { OnOk result (T.legal pass.new.terms pass.new.base pass.new.seen) }
+        ensures legal { T.legal pass.new.terms pass.new.base pass.new.seen }
         ensures mine { IfOk result (λ r. pass.new.mine ≡ call pass.new.drawn (entry ask r) ∷ pass.old.mine) }
-        ensures stand { OnOk result (StandIn pass.new.seen pass.new.mine × InOrder pass.new.mine) }
+        ensures stand { StandIn pass.new.seen pass.new.mine × InOrder pass.new.mine }
         ensures below { OnOk result (pass.new.drawn < self.now.limit) }
         ensures spent { OnErr result (self.now.limit ≤ pass.new.drawn) }
         ensures nothing { OnErr result ((pass.new.seen ≡ pass.old.seen) × (pass.new.mine ≡ pass.old.mine)) }
@@ -103,8 +103,10 @@ impl<T: Object> Turnstile<T> {
     pub fn join(&self, pass: &mut Pass<T>, other: Pass<T>)
         requires own { BelongsTo self.now pass.old × BelongsTo self.now other }
         ensures ground { SameGround pass.old pass.new }
+        ensures other { SameGround other pass.new }
         ensures seen { pass.new.seen ≡ longer pass.old.seen other.seen }
         ensures older { IsOlderPart pass.old.seen pass.new.seen × IsOlderPart other.seen pass.new.seen }
+        ensures legal { T.legal pass.new.terms pass.new.base pass.new.seen }
         ensures mine { pass.new.mine ≡ merged pass.old.mine other.mine }
         ensures stand { StandIn pass.new.seen pass.new.mine × InOrder pass.new.mine }
         ensures drawn { pass.new.drawn ≡ max pass.old.drawn other.drawn }
@@ -121,6 +123,7 @@ impl<T: Object> Turnstile<T> {
         ensures history { (history : List Entry) × T.stands result.value pass.base history × T.legal pass.terms pass.base history
             × IsOlderPart pass.seen history × StandIn history pass.mine × (result.calls ≡ length history) }
         ensures order { InOrder pass.mine }
+        ensures limit { result.calls ≤ self.limit }
     {
         let Pass { seat, calls: _ } = pass;
         let (value, calls) = self.board.take_last(rt, seat);

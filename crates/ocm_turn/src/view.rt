@@ -27,6 +27,10 @@ pub struct View<G> {
     /// An older part of `seen` that was another seat's `seen`, after a join.
     pub heard: LinkedList<Entry>,
     pub mine: LinkedList<Call>,
+    /// The base of the seat that was joined last, or the own one.
+    pub met_base: LinkedList<Entry>,
+    /// The terms of the seat that was joined last, or the own ones.
+    pub met_terms: Option<G>,
     pub ticket: Option<u64>,
     pub turn: bool,
     pub drawn: u64,

@@ -2,6 +2,7 @@ use Rattle.std.proofs.Common.{arith, ◌≡◌, ◌+◌, ◌≤◌, length, ap, 
 use Rattle.atomic_table.specs.Table.{Me}
 use Rattle.ocm_turn.specs.declared.view.View.{View}
 use Rattle.ocm_turn.proofs.CallLemmas.{length_merged}
+use Rattle.ocm_turn.proofs.PassLemmas.{legal_joined}
 use Rattle.ocm_turn.proofs.turnstile.Turnstile.join.Goals as goal
 
 pub overflow_add-pass : goal.overflow_add-pass
@@ -33,4 +34,7 @@ invariant_of-pass g c =
       ap (λ (m : Me (Option g.row.T.Denot) (View g.row.T-Terms.Denot)). m.1) is,
       omega (arith, both, ours, others),
       omega (arith, limit, bound),
+      c.join.ensures.sound.0.mine,
+      c.join.ensures.sound.0.order,
+      legal_joined c.pass.inside.seat.me.0 c.other.inside.seat.me.0 c.join.new.seat.me.0 (ap (λ (m : Me (Option g.row.T.Denot) (View g.row.T-Terms.Denot)). m.0) is) c.join.ensures.sound.0 g.T.Object.legal _ _ _ c.pass.invariant.6 c.other.invariant.6,
     )
