@@ -1,6 +1,6 @@
 //! A disk: what a read returns, and what a crash may leave.
 
-ghost use Rattle.std.specs.Prelude.{◌≡◌, ◌≤◌, ◌+◌, ◌^◌, max, List, ℕ, length, take, drop, replicate, OnOk, OnErr, IsOk, IsErr};
+ghost use Rattle.std.specs.Prelude.{◌≡◌, ◌≤◌, ◌<◌, ◌+◌, ◌^◌, max, List, ℕ, length, take, drop, replicate, OnOk, OnErr, IsOk, IsErr};
 ghost use Rattle.ocm_disk.specs.Disk.{Only, Follows, Torn, Cut, Holds, Elapses, HasCause};
 
 use ocm_base::{Failed, NoMemory};
@@ -103,6 +103,8 @@ pub trait Disk: Drop {
         ensures passes { (n : ℕ) → passes self.old (n + 1) → place + length bytes.now ≤ size self.old + spare self.old → IsOk result × passes self.new n }
         ensures burns { (n : ℕ) → burnt self.old (n + 1) → burnt self.new n }
         ensures burnt { burnt self.old 0 → IsErr result × burnt self.new 0 × (seen self.new ≡ seen self.old) × (torn self.new ≡ torn self.old) }
+        // What would lengthen the disk beyond the room that was taken is a fault, where the disk tells what it holds.
+        ensures beyond { tells → size self.old + spare self.old < place + length bytes.now → IsErr result }
         ensures cause { HasCause (count self.old) (count self.new) result };
 
     /// Cuts the disk to a length.

@@ -47,7 +47,7 @@ taken_as : (place n g m : ℕ) (after bytes : List ℕ) → g ≡ 1 → bytes �
 taken_as place n g m after bytes gate taken size is = rw (gate, taken, size) (record_taken place n after is)
 
 -- the same in the words of a slice
-pub next_is_taken : (place n : ℕ) (rest bytes : List ℕ) → 1 ≤ length rest → get_or rest 0 0 ≡ 1 → Some n ≡ record_length (take (length rest - 1) (drop 1 rest)) → bytes ≡ take (4 + n - 4) (drop 4 (take (length rest - 1) (drop 1 rest))) → (5 + length bytes ≤ length rest) × (records_from 0 place rest ≡ put_first (record { place = place; bytes = bytes }) (records_from 0 (place + (5 + length bytes)) (drop (5 + length bytes) rest)))
+pub next_is_taken : (place n : ℕ) (rest bytes : List ℕ) → 1 ≤ length rest → get_or rest 0 0 ≡ 1 → Some n ≡ record_length (take (length rest - 1) (drop 1 rest)) → bytes ≡ take (4 + n - 4) (drop 4 (take (length rest - 1) (drop 1 rest))) → (5 + length bytes ≤ length rest) × (bytes ≡ take (length bytes) (drop 5 rest)) × (records_from 0 place rest ≡ put_first (record { place = place; bytes = bytes }) (records_from 0 (place + (5 + length bytes)) (drop (5 + length bytes) rest)))
 next_is_taken place n [] bytes some gate is taken = absurd (omega (arith, some))
 next_is_taken place n (g ∷ after) bytes some gate is taken =
     let whole : take (length (g ∷ after) - 1) (drop 1 (g ∷ after)) ≡ after = take_all (length (g ∷ after) - 1) after (omega arith) in
@@ -57,5 +57,6 @@ next_is_taken place n (g ∷ after) bytes some gate is taken =
     let bytes_are : bytes ≡ take n (drop 4 after) = taken ∙ ap (λ k. take k (drop 4 (take (length (g ∷ after) - 1) (drop 1 (g ∷ after))))) count ∙ ap (λ (l : List ℕ). take n (drop 4 l)) whole in
     let size : length bytes ≡ n = ap length bytes_are ∙ grind (arith, common_steps, fits.0) in (
       omega (arith, size, fits.0),
+      bytes_are ∙ ap (λ k. take k (drop 4 after)) (sym size),
       taken_as place n g (length bytes) after bytes gate bytes_are size stands,
     )

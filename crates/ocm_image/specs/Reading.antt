@@ -115,3 +115,8 @@ TakesNext place rest (Ok None) = (1 ≤ length rest) × (records_from 0 place re
 TakesNext place rest (Ok (Some r)) = (5 + length r.bytes ≤ length rest) × (records_from 0 place rest ≡ put_first r (records_from 0 (place + (5 + length r.bytes)) (drop (5 + length r.bytes) rest)))
 TakesNext place rest (Err (NotJournal fault)) = records_from 0 place rest ≡ Err fault
 TakesNext place rest (Err NoMemory) = Unit {0}
+
+-- the first record of an area from this place on, and then those behind it, are what reading gives; without one the area ends here
+abbrev pub FirstIs : ℕ → List ℕ → Option (List ℕ) → Type 0
+FirstIs place rest None = (1 ≤ length rest) × (records_from 0 place rest ≡ Ok (record { items = []; end = place }))
+FirstIs place rest (Some r) = (5 + length r ≤ length rest) × (r ≡ take (length r) (drop 5 rest)) × (records_from 0 place rest ≡ put_first (record { place = place; bytes = r }) (records_from 0 (place + (5 + length r)) (drop (5 + length r) rest)))

@@ -1,5 +1,9 @@
 use ocm_base::NoMemory;
 
+/// Bytes are no image: the place of the first byte that can't stand in one, or at which bytes are wanting.
+#[derive(Clone, Copy, Debug, PartialEq, Eq)]
+pub struct NotImage(pub u64);
+
 /// Why bytes are no journal.
 #[derive(Clone, Copy, Debug, PartialEq, Eq)]
 pub enum ImageFault {
@@ -17,5 +21,16 @@ impl From<NoMemory> for ImageFault {
 
     fn from(_error: NoMemory) -> ImageFault {
         ImageFault::NoMemory
+    }
+}
+
+impl From<NotImage> for ImageFault {
+    ghost use Rattle.std.specs.Prelude.{◌≡◌};
+    ghost use Rattle.ocm_image.specs.declared.faults.ImageFault.TheVariants.{NotJournal};
+
+    ghost from_gives = { λ place fault. fault ≡ NotJournal place.0 };
+
+    fn from(error: NotImage) -> ImageFault {
+        ImageFault::NotJournal(error.0)
     }
 }

@@ -10,12 +10,12 @@ mod images;
 mod laws;
 mod readings;
 
-pub use areas::{GREATEST_RECORD, read_area};
+pub use areas::{GREATEST_RECORD, next_record, read_area};
 pub use blanks::{Blank, read_blank, read_blank_for_any};
-pub use faults::ImageFault;
+pub use faults::{ImageFault, NotImage};
 pub use fresh::{area_bytes, fits_area, fresh_bytes};
 pub use headers::{GREATEST_AREA, HEADER_SIZE, LEAST_AREA, read_header};
-pub use images::read_image;
+pub use images::{Front, read_front, read_image};
 pub use laws::{
     a_blank_file_is_no_image, an_image_is_read, one_image_in_bytes, what_is_read_is_an_image,
 };

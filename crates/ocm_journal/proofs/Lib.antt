@@ -2,6 +2,7 @@ pub mod AppendStands
 pub mod Appended
 pub mod Holding
 pub mod Made
+pub mod OfBlank
 pub mod Moving
 pub mod OpenedImage
 pub mod Renewed

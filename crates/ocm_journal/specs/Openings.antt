@@ -7,7 +7,7 @@ use Rattle.ocm_image.specs.declared.blanks.Blank.TheVariants.{Empty, Begun, Writ
 use Rattle.ocm_image.specs.declared.readings.RawRecord.{RawRecord}
 use Rattle.ocm_image.specs.declared.readings.Area.{Area}
 use Rattle.ocm_image.specs.declared.readings.Header.{Header}
-use Rattle.ocm_image.specs.Blank.{blank_of, IsBlank}
+use Rattle.ocm_image.specs.Blank.{blank_of, made_form, IsBlank}
 use Rattle.ocm_image.specs.Layout.{IsImage, IsAreaSize, live_start, blocks_size, contents}
 use Rattle.ocm_image.specs.Reading.{header_of, area_of, start_of, live_bytes}
 use Rattle.ocm_journal.specs.declared.faults.OpenFault.{OpenFault}
@@ -97,3 +97,7 @@ StaysAsItOpens label area seen bytes = (bytes ≡ seen) ⊎ (IsBlank label area 
 -- the size of the areas of a new journal
 abbrev pub new_area : ℕ → ℕ
 new_area limit = (limit - 512) / 2
+
+-- where a disk of these bytes was blank, the form and the area size of the journal that was made of it
+abbrev pub IsMadeAs : List ℕ → ℕ → List ℕ → ℕ → ℕ → Type 0
+IsMadeAs label area seen form size = (blank : Blank) → blank_of label area seen ≡ Some blank → (form ≡ made_form blank) × (size ≡ area)

@@ -1,4 +1,4 @@
-ghost use Rattle.std.specs.Prelude.{◌≡◌, ◌⊎◌, ◌<◌, ◌≤◌, ◌+◌, ◌^◌, ◌∷◌, [], ◌++◌, ◌↔◌, ℕ, List, length, vec_capacity, OnOk, OnErr, IsOk, IfErr, IsErrOf, true, false};
+ghost use Rattle.std.specs.Prelude.{◌≡◌, ◌⊎◌, ◌<◌, ◌≤◌, ◌+◌, ◌^◌, ◌∷◌, [], ◌++◌, ◌↔◌, ℕ, List, length, vec_capacity, OnOk, OnErr, IsOk, IsErr, IfErr, IsErrOf, true, false};
 ghost use Rattle.std.specs.Int.{w32, to_be_bytes};
 ghost use Rattle.ocm_base.specs.Outside.{raised};
 ghost use Rattle.ocm_disk.specs.Disk.{LeavesOnly};
@@ -80,6 +80,10 @@ impl<D: Disk> Journal<D> {
         ensures fault { IfErr result (HasCount (D.count (disk_of self.old)) (D.count (disk_of self.new))) }
         ensures stopped { self.new.stopped ≡ stops result }
         ensures shape { SameShape self.old self.new }
+
+        // Where it answers Ok it has made four device calls, and where fewer are left it fails.
+        ensures calls { (left : ℕ) → D.burnt (disk_of self.old) (left + 4) → OnOk result (D.burnt (disk_of self.new) left) }
+        ensures fewer { (left : ℕ) → left < 4 → D.burnt (disk_of self.old) left → IsErr result }
         ensures passes { (calls : ℕ) → D.passes (disk_of self.old) (calls + 4) → IsErrOf result AppendFault.Full ⊎ (IsOk result × D.passes (disk_of self.new) calls) }
     {
         let size = bytes.len() as u64;

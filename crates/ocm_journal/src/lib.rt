@@ -10,6 +10,8 @@ mod reading;
 mod renewing;
 mod steps;
 mod telling;
+#[cfg(test)]
+mod tests;
 
 pub use appending::AppendFault;
 pub use faults::OpenFault;

@@ -1,4 +1,4 @@
-ghost use Rattle.std.specs.Prelude.{◌≡◌, ◌≢◌, ◌⊎◌, ◌<◌, ◌≤◌, ◌+◌, ◌↔◌, ℕ, List, OnOk, IsOk, IfErr, IsErrOf, false};
+ghost use Rattle.std.specs.Prelude.{◌≡◌, ◌≢◌, ◌⊎◌, ◌<◌, ◌≤◌, ◌+◌, ◌↔◌, ℕ, List, OnOk, IsOk, IsErr, IfErr, IsErrOf, false};
 ghost use Rattle.ocm_disk.specs.Disk.{LeavesOnly};
 ghost use Rattle.ocm_image.specs.Layout.{AreRecords, blocks_size};
 ghost use Rattle.ocm_journal.specs.Renewals.{HasCount, stops};
@@ -68,6 +68,10 @@ impl<D: Disk> Journal<D> {
         ensures stopped { self.new.stopped ≡ stops result }
         ensures area { self.new.area ≡ self.old.area }
         ensures form { OnOk result (self.new.form ≡ 2) }
+
+        // Where it answers Ok it has made four device calls, and where fewer are left it fails.
+        ensures calls { (left : ℕ) → D.burnt (disk_of self.old) (left + 4) → OnOk result (D.burnt (disk_of self.new) left) }
+        ensures fewer { (left : ℕ) → left < 4 → D.burnt (disk_of self.old) left → IsErr result }
         ensures passes { (calls : ℕ) → D.passes (disk_of self.old) (calls + 4) → IsErrOf result RenewFault.Full ⊎ IsErrOf result RenewFault.NoMemory ⊎ (IsOk result × D.passes (disk_of self.new) calls) }
     {
         if !fits_area(records, self.area) {

@@ -1,5 +1,5 @@
 //! Writes that a crash may cut short.
-ghost use Rattle.std.specs.Prelude.{◌≡◌, ◌<◌, ◌≤◌, ◌+◌, ◌^◌, ◌∷◌, [], ℕ, List, max, length, OnOk, OnErr, IsOk};
+ghost use Rattle.std.specs.Prelude.{◌≡◌, ◌<◌, ◌≤◌, ◌+◌, ◌^◌, ◌∷◌, [], ℕ, List, max, length, OnOk, OnErr, IsOk, IsErr};
 ghost use Rattle.ocm_disk.specs.Disk.{Only, Holds, Torn, LeavesOnly, HasCause};
 ghost use Rattle.ocm_journal.specs.Steps.{Switched, InSwitch};
 
@@ -16,6 +16,8 @@ pub fn put<D: Disk>(disk: &mut D, place: u64, text: &[u8]) -> Result<(), Failed>
     ensures size { OnOk result (D.size disk.new ≡ max (D.size disk.old) (place + length text.now)) }
     ensures no_shorter { D.size disk.old ≤ D.size disk.new }
     ensures spare { D.size disk.old + D.spare disk.old ≤ D.size disk.new + D.spare disk.new }
+    ensures calls { (n : ℕ) → D.burnt disk.old (n + 2) → OnOk result (D.burnt disk.new n) }
+    ensures fewer { (n : ℕ) → n < 2 → D.burnt disk.old n → IsErr result }
     ensures passes { (n : ℕ) → D.passes disk.old (n + 2) → place + length text.now ≤ D.size disk.old + D.spare disk.old → IsOk result × D.passes disk.new n }
     ensures cause { HasCause (D.count disk.old) (D.count disk.new) result }
 {
@@ -42,6 +44,8 @@ pub fn put_behind<D: Disk>(
     ensures size { OnOk result (D.size disk.new ≡ max (D.size disk.old) (place + length text.now)) }
     ensures no_shorter { D.size disk.old ≤ D.size disk.new }
     ensures spare { D.size disk.old + D.spare disk.old ≤ D.size disk.new + D.spare disk.new }
+    ensures calls { (n : ℕ) → D.burnt disk.old (n + 4) → OnOk result (D.burnt disk.new n) }
+    ensures fewer { (n : ℕ) → n < 4 → D.burnt disk.old n → IsErr result }
     ensures passes { (n : ℕ) → D.passes disk.old (n + 4) → place + length text.now ≤ D.size disk.old + D.spare disk.old → IsOk result × D.passes disk.new n }
     ensures cause { HasCause (D.count disk.old) (D.count disk.new) result }
 {

@@ -1,6 +1,6 @@
-use Rattle.std.proofs.Common.{◌⊎◌, ℕ, List, inl, inr, sym, ◌∙◌, subst}
+use Rattle.std.proofs.Common.{◌⊎◌, ℕ, List, IfOk, inl, inr, sym, ◌∙◌, subst}
 use Rattle.ocm_disk.specs.Disk.{Only}
-use Rattle.ocm_journal.specs.Openings.{StaysAsItOpens}
+use Rattle.ocm_journal.specs.Openings.{IsMadeAs, StaysAsItOpens}
 use Rattle.ocm_journal.proofs.AppendStands.{on_ok}
 use Rattle.ocm_journal.proofs.Moving.{still, weaker, joined}
 use Rattle.ocm_journal.proofs.loading.open.Goals as goal
@@ -15,3 +15,8 @@ returns-clause-any_moment g c = λ tells.
     let first = still d.moment d.left_since c.args.disk.now c.sync.new.self P (d.may_leave c.args.disk.now) (d.may_leave c.sync.new.self) (g.met.D.Disk.only_now c.args.disk.now) (λ x left. inl left) c.sync.ensures.time (c.sync.ensures.crash tells) in
     let last = weaker d.moment d.left_since c.sync.new.self c.open_synced.new.disk (StaysAsItOpens c.args.label.now c.args.area (d.seen c.sync.new.self)) P (c.open_synced.ensures.any_moment tells only_mid) (λ x stays. inr (subst (λ (b : List ℕ). StaysAsItOpens c.args.label.now c.args.area b x) c.sync.ensures.seen stays)) in
     joined d.moment d.left_since c.args.disk.now c.sync.new.self c.open_synced.new.disk P first last
+
+pub returns-clause-made : goal.returns-clause-made
+returns-clause-made g c = λ tells.
+    let made : List ℕ → Type 0 = λ seen. IfOk c.open_synced.result (λ opened. IsMadeAs c.args.label.now c.args.area seen opened.form opened.area) in
+    subst made c.sync.ensures.seen (c.open_synced.ensures.made tells)

@@ -4,6 +4,7 @@ use Rattle.ocm_image.specs.Blank.{blank_of, IsBlank}
 use Rattle.ocm_journal.specs.Openings.{Opens}
 use Rattle.ocm_journal.proofs.AppendStands.{on_ok}
 use Rattle.ocm_journal.proofs.Made.{made_stands}
+use Rattle.ocm_journal.proofs.OfBlank.{made_of}
 use Rattle.ocm_journal.proofs.Moving.{still, joined}
 use Rattle.ocm_journal.proofs.loading.open_blank.Goals as goal
 
@@ -37,3 +38,6 @@ returns-clause-opens g c = λ tells blank.
     let good = sym c.is_err.ensures.value ∙ c.if-is_err.false in
     let made = on_ok c.make.result _ good (c.make.ensures.made tells c.args.label.now c.args.area text at_mid) in
     made_stands c.args.label.now c.args.area c.made_form.result c.args.blank c.new.result (d.seen c.args.disk.now) (d.seen c.make.new.disk) c.made_form.ensures c.new.ensures blank made c.requires.label c.requires.area
+
+pub returns-clause-made : goal.returns-clause-made
+returns-clause-made g c = λ blank. made_of c.args.label.now (g.D.Disk.seen c.args.disk.now) c.args.area c.made_form.result c.args.blank blank c.made_form.ensures

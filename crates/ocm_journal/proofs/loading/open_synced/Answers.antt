@@ -1,8 +1,9 @@
-use Rattle.std.proofs.Common.{◌≡◌, ℕ, [], List, length, Some, is_some, inl, inr, sym, ◌∙◌, ap}
+use Rattle.std.proofs.Common.{◌≡◌, ℕ, [], List, length, Some, None, IfOk, is_some, inl, inr, sym, ◌∙◌, ap, subst}
 use Rattle.ocm_disk.specs.Disk.{Only}
 use Rattle.ocm_image.specs.Blank.{blank_of, IsBlank}
-use Rattle.ocm_journal.specs.Openings.{Opens, StaysAsItOpens}
+use Rattle.ocm_journal.specs.Openings.{Opens, IsMadeAs, StaysAsItOpens}
 use Rattle.ocm_journal.proofs.Moving.{weaker, joined}
+use Rattle.ocm_journal.proofs.OfBlank.{if_ok_each, none_made}
 use Rattle.ocm_journal.proofs.OpenedImage.{front_is}
 use Rattle.ocm_journal.proofs.loading.open_synced.Goals as goal
 
@@ -20,3 +21,22 @@ returns-in-Some-clause-any_moment g c = λ tells only.
     let first = weaker d.moment d.left_since c.args.disk.now c.read_part.new.disk (d.may_leave c.args.disk.now) P (c.read_part.ensures.any_moment tells) (λ x left. inl (only x left)) in
     let last = weaker d.moment d.left_since c.read_part.new.disk c.open_blank.new.disk (Opens c.args.label.now c.args.area []) P (c.open_blank.ensures.any_moment tells only_mid at_mid) (λ x opens. inr (is_blank, opens)) in
     joined d.moment d.left_since c.args.disk.now c.read_part.new.disk c.open_blank.new.disk P first last
+
+pub returns-in-Some-clause-made : goal.returns-in-Some-clause-made
+returns-in-Some-clause-made g c = λ tells.
+    let d = g.D.Disk in
+    let seen : List ℕ = d.seen c.args.disk.now in
+    let front = front_is c.deref.result.now c.in_ok-front.front.items seen c.min.result c.deref.ensures.value (c.in_ok-front.ensures.bytes tells) c.in_ok-front.ensures.length in
+    let size : length seen ≡ c.len-len.result = g.met.D.Disk.sizes c.args.disk.now tells ∙ sym c.len-len.ensures in
+    let blank : blank_of c.args.label.now c.args.area seen ≡ Some c.in-Some.blank = sym (c.in_ok-blank.ensures.blank seen size front) ∙ c.in-Some.is in
+    let at_mid : blank_of c.args.label.now c.args.area (d.seen c.read_part.new.disk) ≡ Some c.in-Some.blank = ap (λ (l : List ℕ). blank_of c.args.label.now c.args.area l) c.read_part.ensures.seen ∙ blank in
+    subst (λ (l : List ℕ). IfOk c.open_blank.result (λ opened. IsMadeAs c.args.label.now c.args.area l opened.form opened.area)) c.read_part.ensures.seen (c.open_blank.ensures.made at_mid)
+
+pub returns-clause-made : goal.returns-clause-made
+returns-clause-made g c = λ tells.
+    let d = g.D.Disk in
+    let seen : List ℕ = d.seen c.args.disk.now in
+    let front = front_is c.deref.result.now c.in_ok-front.front.items seen c.min.result c.deref.ensures.value (c.in_ok-front.ensures.bytes tells) c.in_ok-front.ensures.length in
+    let size : length seen ≡ c.len-len.result = g.met.D.Disk.sizes c.args.disk.now tells ∙ sym c.len-len.ensures in
+    let none : blank_of c.args.label.now c.args.area seen ≡ None = sym (c.in_ok-blank.ensures.blank seen size front) ∙ c.in-None.is in
+    if_ok_each c.open_image.result _ (λ opened. none_made c.args.label.now seen c.args.area opened.form opened.area none)

@@ -1,4 +1,5 @@
-use Rattle.std.proofs.Common.{◌≡◌, ◌+◌, subst, arith, length}
+use Rattle.std.proofs.Common.{◌≡◌, ◌+◌, inl, inr, subst, arith, length}
+use Rattle.std.proofs.lemmas.Bool.{cases_eq}
 use Rattle.ocm_journal.proofs.Moving.{torn_now, wrote, then_synced}
 use Rattle.ocm_journal.proofs.steps.put.Goals as goal
 
@@ -17,3 +18,15 @@ pub returns-clause-any_moment : goal.returns-clause-any_moment
 returns-clause-any_moment g c = λ tells only.
     let first = wrote g.D.Disk.moment g.D.Disk.left_since c.args.disk.now c.write_at.new.self c.args.place (length c.args.text.now) (g.D.Disk.seen c.args.disk.now) (g.D.Disk.may_leave c.args.disk.now) (g.D.Disk.may_leave c.write_at.new.self) (g.met.D.Disk.only_now c.args.disk.now) only c.write_at.ensures.time (c.write_at.ensures.crash tells) in
     then_synced g.D.Disk.moment g.D.Disk.left_since c.args.disk.now c.write_at.new.self c.sync.new.self _ _ _ first (torn_now _ _ _ _ _ only (c.write_at.ensures.crash tells)) c.sync.ensures.time (c.sync.ensures.crash tells)
+
+pub returns-clause-calls : goal.returns-clause-calls
+returns-clause-calls g c = λ n b. let e : n + 2 ≡ n + 1 + 1 = omega arith in c.sync.ensures.burns n (c.write_at.ensures.burns (n + 1) (subst (λ k. g.D.Disk.burnt c.args.disk.now k) e b))
+
+pub returns-clause-fewer : goal.returns-clause-fewer
+returns-clause-fewer g c = λ n few b.
+    elim (cases_eq n 0) [
+      | inl none ↦ absurd (let q = (c.in_ok-write_at.ensures.burnt (subst (λ k. g.D.Disk.burnt c.args.disk.now k) none b)).0 in cc)
+      | inr some ↦
+          let e : n ≡ 0 + 1 = omega (arith, few, some) in
+          absurd (let q = (c.in_ok-sync.ensures.burnt (c.write_at.ensures.burns 0 (subst (λ k. g.D.Disk.burnt c.args.disk.now k) e b))).0 in cc)
+    ]

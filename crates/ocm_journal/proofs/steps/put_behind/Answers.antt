@@ -1,4 +1,5 @@
-use Rattle.std.proofs.Common.{◌≡◌, ◌+◌, subst, arith}
+use Rattle.std.proofs.Common.{◌≡◌, ◌+◌, ◌-◌, inl, inr, subst, arith}
+use Rattle.std.proofs.lemmas.Bool.{cases_lt}
 use Rattle.ocm_journal.proofs.steps.put_behind.Goals as goal
 
 pub returns-in_err-put-clause-passes : goal.returns-in_err-put-clause-passes
@@ -6,3 +7,15 @@ returns-in_err-put-clause-passes g c = λ n p fits. let e : n + 4 ≡ n + 2 + 2 
 
 pub returns-clause-passes : goal.returns-clause-passes
 returns-clause-passes g c = λ n p fits. let e : n + 4 ≡ n + 2 + 2 = omega arith in let q = c.in_ok-put.ensures.passes (n + 2) (subst (λ k. g.D.Disk.passes c.args.disk.now k) e p) fits in c.put-2.ensures.passes n q.1 (omega (arith, c.requires.switch, c.in_ok-put.ensures.no_shorter))
+
+pub returns-clause-calls : goal.returns-clause-calls
+returns-clause-calls g c = λ n b. let e : n + 4 ≡ n + 2 + 2 = omega arith in c.put-2.ensures.calls n (c.in_ok-put.ensures.calls (n + 2) (subst (λ k. g.D.Disk.burnt c.args.disk.now k) e b))
+
+pub returns-clause-fewer : goal.returns-clause-fewer
+returns-clause-fewer g c = λ n few b.
+    elim (cases_lt n 2) [
+      | inl below ↦ absurd (let q = c.in_ok-put.ensures.fewer n below b in cc)
+      | inr above ↦
+          let e : n ≡ n - 2 + 2 = omega (arith, above) in
+          c.put-2.ensures.fewer (n - 2) (omega (arith, few, above)) (c.in_ok-put.ensures.calls (n - 2) (subst (λ k. g.D.Disk.burnt c.args.disk.now k) e b))
+    ]

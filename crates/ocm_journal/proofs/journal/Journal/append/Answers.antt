@@ -26,3 +26,13 @@ returns-clause-acknowledged g c = λ tells label records s.
       gate = omega (arith, s.gate, blocks_size-push records c.args.bytes.now);
       durable = on_ok c.put_behind.result _ good (c.put_behind.ensures.durable tells);
     }
+
+pub returns-clause-calls : goal.returns-clause-calls
+returns-clause-calls g c = λ left b.
+    let good = sym c.is_err.ensures.value ∙ c.if-is_err.false in
+    on_ok c.put_behind.result _ good (c.put_behind.ensures.calls left b)
+
+pub returns-clause-fewer : goal.returns-clause-fewer
+returns-clause-fewer g c = λ left few b.
+    let good = sym c.is_err.ensures.value ∙ c.if-is_err.false in
+    absurd (let bad = c.put_behind.ensures.fewer left few b in cc)

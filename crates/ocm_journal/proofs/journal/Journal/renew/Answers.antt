@@ -55,3 +55,13 @@ returns-clause-acknowledged g c = λ tells label before s.
       gate = omega (arith, size, len, c.min-place.ensures);
       durable = on_ok c.put_behind.result _ good (c.put_behind.ensures.durable tells);
     }
+
+pub returns-clause-calls : goal.returns-clause-calls
+returns-clause-calls g c = λ left b.
+    let good = sym c.is_err.ensures.value ∙ c.if-is_err.false in
+    on_ok c.put_behind.result _ good (c.put_behind.ensures.calls left (c.room.ensures.burnt (left + 4) b))
+
+pub returns-clause-fewer : goal.returns-clause-fewer
+returns-clause-fewer g c = λ left few b.
+    let good = sym c.is_err.ensures.value ∙ c.if-is_err.false in
+    absurd (let bad = c.put_behind.ensures.fewer left few (c.room.ensures.burnt left b) in cc)
