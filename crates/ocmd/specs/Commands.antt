@@ -11,6 +11,7 @@ use Rattle.ocmd.specs.declared.ends.Fault.{Fault}
 use Rattle.ocmd.specs.declared.ends.Fault.TheVariants as faults
 use Rattle.ocmd.specs.declared.words.Command.{Command}
 use Rattle.ocmd.specs.declared.words.Command.TheVariants as commands
+use Rattle.ocmd.specs.Audits.{AuditsTo}
 use Rattle.ocmd.specs.Checks.{Checks}
 use Rattle.ocmd.specs.Words.{most_bytes}
 
@@ -26,16 +27,19 @@ bad_line number = codes "bad line " ++ decimal number ++ 10 ∷ []
 abbrev pub Replays : List ℕ → End → List ℕ → Type 0
 Replays bytes whole.Done text = (events : List Event) × (script_of bytes ≡ Ok events) × Transcript None 1 events text
 Replays bytes whole.Record text = ⊥
+Replays bytes whole.NotJournal text = ⊥
 Replays bytes whole.Script text = (number : ℕ) × (script_of bytes ≡ Err (ends.Line number)) × (text ≡ bad_line number)
 
 -- on these bytes the command has this end, and writes this text
 abbrev pub Gives : Command → List ℕ → End → List ℕ → Type 0
 Gives commands.Replay bytes end text = Replays bytes end text
+Gives commands.Audit bytes end text = AuditsTo bytes end text
 Gives (commands.Check kind) bytes end text = Checks kind bytes end text
 
 -- the bytes are more than the command takes, or a script has too many lines
 abbrev pub IsLong : Command → List ℕ → Type 0
 IsLong commands.Replay bytes = (most_bytes commands.Replay < length bytes) ⊎ (script_of bytes ≡ Err ends.TooMany)
+IsLong commands.Audit bytes = most_bytes commands.Audit < length bytes
 IsLong (commands.Check kind) bytes = most_bytes (commands.Check kind) < length bytes
 
 -- the command took the bytes, had this end, and added its text
@@ -52,6 +56,7 @@ WritesPart command bytes old new =
 abbrev pub end_status : End → ℕ
 end_status whole.Done = 0
 end_status whole.Script = 2
+end_status whole.NotJournal = 7
 end_status whole.Record = 8
 
 -- the number is the status of a run whose text is whole

@@ -5,6 +5,7 @@ ghost use Rattle.ocmd.specs.Commands.{IsLong, IsStatus, IsWhole, Writes, WritesP
 ghost use Rattle.ocmd.specs.Commands as specified;
 ghost use Rattle.ocmd.specs.Words.{most_bytes, words_of};
 
+use crate::audits::run_audit;
 use crate::checks::check;
 use crate::ends::{End, Fault};
 use crate::scripts::run_script;
@@ -14,8 +15,8 @@ use std::alloc::Global;
 
 /// Runs the command that the words are, and answers the status of the program: 0 where it was done,
 /// 1 where the words are no command, 2 where a line of the script is no event, 3 and 4 where the
-/// source or the sink failed, 5 where there was no memory, 8 where the input is no such record, 9 where
-/// it is too long.
+/// source or the sink failed, 5 where there was no memory, 7 where the input is no journal, 8 where it is
+/// no such record, 9 where it is too long.
 pub fn command<S: Source, K: Sink>(
     alloc: Global,
     words: &[String],
@@ -32,7 +33,7 @@ pub fn command<S: Source, K: Sink>(
     ensures part_of_usage { ((c : Command) → map (λ word. string_bytes word) words.now ≢ words_of c) → result ≡ 4
         → AppendsPart (K.taken sink.old) (K.taken sink.new) usage_line }
 
-    // 0, 2 and 8: the source was read to its end, and what the command writes on its bytes was added
+    // 0, 2, 7 and 8: the source was read to its end, and what the command writes on its bytes was added
     ensures ended { IsWhole result → IfSome (S.left source.new) (λ rest. rest ≡ []) }
     ensures whole { (c : Command) → map (λ word. string_bytes word) words.now ≡ words_of c → IsWhole result
         → IfSome (S.left source.old) (λ bytes. (end : End) × (result ≡ end_status end) × Writes c bytes end (K.taken sink.old) (K.taken sink.new)) }
@@ -115,6 +116,7 @@ fn run_on<K: Sink>(
 {
     match command {
         Command::Replay => run_script(alloc, bytes.as_slice(), sink),
+        Command::Audit => run_audit(alloc, bytes.as_slice(), sink),
         Command::Check(kind) => check(alloc, kind, bytes.as_slice(), sink),
     }
 }
@@ -125,6 +127,7 @@ fn status_of(end: Result<End, Fault>) -> u8
     match end {
         Ok(End::Done) => 0,
         Ok(End::Script) => 2,
+        Ok(End::NotJournal) => 7,
         Ok(End::Record) => 8,
         Err(Fault::ReadFault) => 3,
         Err(Fault::WriteFault) => 4,

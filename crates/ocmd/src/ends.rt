@@ -7,6 +7,8 @@ pub enum End {
     Done,
     /// A line of the script is no event: status 2.
     Script,
+    /// The bytes are no journal: status 7.
+    NotJournal,
     /// The bytes are no such record: status 8.
     Record,
 }

@@ -1,6 +1,7 @@
 //! The program `ocmd`: its commands over standard input and standard output.
 #![tactic(auto)]
 
+mod audits;
 mod checks;
 mod commands;
 mod ends;

@@ -89,3 +89,52 @@ fn records_decide_the_status(rt: HostRuntime) -> Result<(), Fail> {
     }
     Ok(())
 }
+
+/// The header of a journal of a.example up to its selector, with the first area live.
+const HEADER: &[u8] = b"\x01OCMJ002\x09a.example\0\0\0\0\x01\xff\xff\0\x01";
+
+/// How many bytes of the header are passed over behind its selector.
+const PASSED: usize = 485;
+
+#[test]
+fn journals_decide_the_status(rt: HostRuntime) -> Result<(), Fail> {
+    let second =
+        b"\x02\x01\0\0\0\x20\0\0\0\0\0\0\0\0\x01\0\x05alice\0\x01\x02\x03\x04\x05\x06\x07\x08\x09\x0a\x0b\x0c\x0d\x0e\x0f\0";
+    let first =
+        b"\x01\x01\0\0\0\x18\x01\0\x05alice\0\x01\x02\x03\x04\x05\x06\x07\x08\x09\x0a\x0b\x0c\x0d\x0e\x0f\0";
+    let old =
+        b"\x01OCMJ001\x09a.example\x01\0\0\0\x18\x01\0\x05alice\0\x01\x02\x03\x04\x05\x06\x07\x08\x09\x0a\x0b\x0c\x0d\x0e\x0f\0";
+    let cases: [(&[u8], usize, &[u8], u8, &[u8]); 7] = [
+        (
+            HEADER,
+            PASSED,
+            second,
+            0,
+            b"host a.example\n513 user 32\nend 550\n",
+        ),
+        (HEADER, PASSED, &second[..38], 7, b"not a journal at 550\n"),
+        (
+            HEADER,
+            PASSED,
+            first,
+            0,
+            b"host a.example\n513 user 24\nend 542\n",
+        ),
+        (HEADER, PASSED, &first[..30], 7, b"not a journal at 542\n"),
+        (old, 0, b"", 7, b"not a journal at 7\n"),
+        (b"hello", 0, b"", 7, b"not a journal at 0\n"),
+        (b"", 0, b"", 0, b"blank\n"),
+    ];
+    for (front, zeros, area, status, written) in cases {
+        let passed = vec![in rt.alloc(); 0; zeros]?;
+        let mut bytes = Bytes::of(rt.alloc(), front)?;
+        bytes.add(passed.as_slice())?;
+        bytes.add(area)?;
+        let (answered, text) = run(rt.alloc(), &["audit"], bytes.as_slice(), &[], &[])?;
+        assert_eq!(rt; answered, status);
+        assert_eq!(rt; text.as_slice(), written);
+    }
+    let (answered, _) = run(rt.alloc(), &["audit", "x"], b"", &[], &[])?;
+    assert_eq!(rt; answered, 1);
+    Ok(())
+}

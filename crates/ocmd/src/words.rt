@@ -35,6 +35,8 @@ impl Kind {
 pub enum Command {
     /// `replay`: runs a script.
     Replay,
+    /// `audit`: tells what the records of a journal's file say.
+    Audit,
     /// `check KIND`: reads a record and writes it in its one form.
     Check(Kind),
 }
@@ -46,6 +48,7 @@ impl Command {
     {
         match words {
             [word] if is_word(word.as_str(), "replay") => Some(Command::Replay),
+            [word] if is_word(word.as_str(), "audit") => Some(Command::Audit),
             [word, kind] if is_word(word.as_str(), "check") => {
                 let kind = Kind::read(kind.as_str())?;
                 Some(Command::Check(kind))
@@ -60,6 +63,7 @@ impl Command {
     {
         match self {
             Command::Replay => 16_777_216,
+            Command::Audit => 1_073_741_824,
             Command::Check(_) => 65_536,
         }
     }

@@ -1,0 +1,4 @@
+pub mod Asks
+pub mod Framing
+pub mod Sending
+pub mod Telling

@@ -1,0 +1,18 @@
+//! Audits of a journal's file: what each record says, line by line, and nothing of a file that is no journal.
+#![tactic(auto)]
+
+mod audits;
+mod faults;
+mod labels;
+mod laws;
+mod lines;
+mod stamps;
+mod testing;
+#[cfg(test)]
+mod tests;
+mod writing;
+
+pub use audits::audit;
+pub use faults::AuditFault;
+pub use laws::an_audit_tells_one_thing;
+pub use stamps::{Stamped, moment_past, read_stamped};
