@@ -5,7 +5,7 @@ use ocm_entry::Share;
 use ocm_types::{Host, Letter, Offer, Perms, Phase};
 
 /// What a message is about. Of the messages about one thing, the later wait for the earlier.
-#[derive(Clone, Copy, Debug, PartialEq, Eq)]
+#[derive(Clone, Copy, Debug, PartialEq, Eq, Hash)]
 pub enum Subject {
     /// The share of this number, which was made here.
     Share { id: u32 },

@@ -1,0 +1,9 @@
+pub mod Search
+pub mod Cost
+pub mod Places
+pub mod ChainLinks
+pub mod RightRows
+pub mod LiveShares
+pub mod OneMore
+pub mod OwnNumbers
+pub mod Hypothesis

@@ -1,0 +1,9 @@
+use Rattle.std.proofs.Common.{◌≡◌}
+use Rattle.ocm_chain.specs.Reaches.{AreRight, owns}
+use Rattle.ocm_chain.proofs.settling.settle.Given as goal
+
+abbrev pub invariant-loop-index : goal.invariant-loop-index
+invariant-loop-index l = record {
+  owns : owns l.rows ≡ owns l.initial.rows;
+  right : AreRight l.rows l.index;
+}

@@ -1,0 +1,5 @@
+pub mod Lists
+pub mod Indexes
+pub mod Reaches
+pub mod Owners
+pub mod Hypotheses

@@ -1,0 +1,206 @@
+ghost use Rattle.std.specs.Prelude.{◌≡◌, ◌<◌, ◌≤◌, ◌+◌, ◌++◌, ◌∷◌, [], length, true, Some, OnOk, IfOk, IfSome, option_copied, option_map};
+ghost use Rattle.ocm_types.specs.declared.rights.Rights.{Rights};
+ghost use Rattle.ocm_rules.specs.declared.rows.ShareRow.{ShareRow};
+ghost use Rattle.ocm_rules.specs.Numbers.{at_number};
+ghost use Rattle.ocm_rules.specs.State.{changed_at, new_share_row};
+ghost use Rattle.ocm_chain.specs.declared.reaches.Row.{Row};
+
+use crate::answers::Change;
+use crate::hypotheses::{changes_among, cut_among, reaches_with};
+use crate::reaches::{Reach, Row};
+use crate::settling::{reach_above, settle};
+use crate::steps::Steps;
+use ocm_base::{List, NoMemory};
+use ocm_entry::Share;
+use ocm_rules::ShareRow;
+use ocm_types::Perms;
+use std::alloc::Global;
+use std::marker::Model;
+use std::sync::ledger::Ledger;
+
+/// The shares with what became of them and what is left of them, numbered from 1. Contracts see the
+/// shares with what became of them, and how many more can be added without memory.
+#[derive(Drop)]
+pub struct Rows {
+    rows: Vec<Row>,
+}
+
+impl Model for Rows {
+    ghost use Rattle.std.specs.Prelude.{◌-◌, vec_len, vec_capacity};
+    ghost use Rattle.ocm_chain.specs.Reaches.{RowLists, AreRows, owns};
+
+    ghost Value = { RowLists };
+
+    ghost view = { λ t. record { shares = owns t.rows.items; room = vec_capacity t.rows - vec_len t.rows } };
+
+    ghost invariant = { λ t. AreRows t.rows.items };
+}
+
+impl Rows {
+    ghost use Rattle.ocm_chain.specs.Lists.{made_of, cut_by, changes_by, IsAmongFirst};
+    ghost use Rattle.ocm_chain.specs.Reaches.{reach_at};
+
+    /// No shares.
+    pub(crate) fn new(alloc: Global) -> Rows
+        ensures { result.shares ≡ [] }
+    {
+        Rows {
+            rows: Vec::new(alloc),
+        }
+    }
+
+    /// How many shares there are.
+    pub fn len(&self) -> u32
+        ensures len { result ≡ length self.now.shares }
+        ensures few { result ≤ 65536 }
+    {
+        self.rows.len() as u32
+    }
+
+    // The row of this number, where there is one.
+    pub(crate) fn get(&self, id: u32) -> Option<&Row>
+        ensures own { option_map (λ (row : Row). row.own) (option_copied result) ≡ at_number self.now.shares id }
+        ensures reach { IfSome result (λ row. row.now.reach ≡ reach_at self.now.shares id) }
+    {
+        if id == 0 || id > self.len() {
+            return None;
+        }
+        Some(self.at(id))
+    }
+
+    // The row of a number that is there.
+    pub(crate) fn at(&self, id: u32) -> &Row
+        requires low { 1 ≤ id }
+        requires high { id ≤ length self.now.shares }
+        ensures own { at_number self.now.shares id ≡ Some result.now.own }
+        ensures reach { result.now.reach ≡ reach_at self.now.shares id }
+    {
+        &self.rows[id as usize - 1]
+    }
+
+    /// The row of a number that is there. It is one step.
+    pub fn read<L: Ledger>(&self, id: u32, steps: &mut Steps<L>) -> &Row
+        requires low { 1 ≤ id }
+        requires high { id ≤ length self.now.shares }
+        ensures own { at_number self.now.shares id ≡ Some result.now.own }
+        ensures reach { result.now.reach ≡ reach_at self.now.shares id }
+        ensures tick { steps.new ≡ steps.old + 1 }
+    {
+        steps.tick();
+        self.at(id)
+    }
+
+    /// Room for one more share.
+    pub(crate) fn room(&mut self) -> Result<(), NoMemory>
+        ensures shares { self.new.shares ≡ self.old.shares }
+        ensures ok { OnOk result (0 < self.new.room) }
+        ensures room { self.old.room ≤ self.new.room }
+    {
+        self.rows.reserve(1)?;
+        Ok(())
+    }
+
+    /// Adds a share, to which nothing was done.
+    pub(crate) fn add(&mut self, share: Share)
+        requires room { 0 < self.old.room }
+        requires few { length self.old.shares < 65536 }
+        requires parent { IsAmongFirst (length self.old.shares) share.parent }
+        ensures shares { self.new.shares ≡ self.old.shares ++ new_share_row share ∷ [] }
+        ensures room { self.old.room ≤ self.new.room + 1 }
+    {
+        let perms = share.granted;
+        let above = reach_above(&self.rows, share.parent);
+        let reach = Reach::of(false, perms.rights(), None, above);
+        let own = ShareRow {
+            share,
+            perms,
+            closed: false,
+            end: None,
+        };
+        self.rows.push(Row { own, reach }).unwrap();
+    }
+
+    // Sets what was done to a share itself, and what is left from it on.
+    fn set(&mut self, id: u32, perms: Perms, closed: bool, end: Option<u64>)
+        requires low { 1 ≤ id }
+        requires high { id ≤ length self.old.shares }
+        ensures shares { self.new.shares ≡ changed_at id (λ (row : ShareRow). record { share = row.share; perms = perms; closed = closed; end = end }) self.old.shares }
+        ensures made { made_of self.new.shares ≡ made_of self.old.shares }
+        ensures room { self.old.room ≤ self.new.room }
+    {
+        let index = id as usize - 1;
+        let row = &mut self.rows[index];
+        row.own.perms = perms;
+        row.own.closed = closed;
+        row.own.end = end;
+        settle(&mut self.rows, index);
+    }
+
+    /// Closes a share.
+    pub(crate) fn close(&mut self, id: u32)
+        requires low { 1 ≤ id }
+        requires high { id ≤ length self.old.shares }
+        ensures shares { self.new.shares ≡ changed_at id (λ (row : ShareRow). record row { closed = true }) self.old.shares }
+        ensures made { made_of self.new.shares ≡ made_of self.old.shares }
+        ensures room { self.old.room ≤ self.new.room }
+    {
+        let own = &self.at(id).own;
+        let (perms, end) = (own.perms, own.end);
+        self.set(id, perms, true, end);
+    }
+
+    /// Sets the permissions of a share.
+    pub(crate) fn limit(&mut self, id: u32, perms: Perms)
+        requires low { 1 ≤ id }
+        requires high { id ≤ length self.old.shares }
+        ensures shares { self.new.shares ≡ changed_at id (λ (row : ShareRow). record row { perms = perms }) self.old.shares }
+        ensures made { made_of self.new.shares ≡ made_of self.old.shares }
+        ensures room { self.old.room ≤ self.new.room }
+    {
+        let own = &self.at(id).own;
+        let (closed, end) = (own.closed, own.end);
+        self.set(id, perms, closed, end);
+    }
+
+    /// Sets the end of a share.
+    pub(crate) fn expire(&mut self, id: u32, until: u64)
+        requires low { 1 ≤ id }
+        requires high { id ≤ length self.old.shares }
+        ensures shares { self.new.shares ≡ changed_at id (λ (row : ShareRow). record row { end = Some until }) self.old.shares }
+        ensures made { made_of self.new.shares ≡ made_of self.old.shares }
+        ensures room { self.old.room ≤ self.new.room }
+    {
+        let own = &self.at(id).own;
+        let (perms, closed) = (own.perms, own.closed);
+        self.set(id, perms, closed, Some(until));
+    }
+
+    /// The numbers of the live shares that closing one takes, ascending.
+    pub(crate) fn cut_by(&self, id: u32, moment: u64) -> Result<List<u32>, NoMemory>
+        requires low { 1 ≤ id }
+        requires high { id ≤ length self.now.shares }
+        ensures { IfOk result (λ list. list ≡ cut_by moment self.now.shares id) }
+    {
+        let alloc = *self.rows.allocator();
+        let rights = self.at(id).own.perms.rights();
+        let after = reaches_with(alloc, &self.rows, id, rights, true)?;
+        cut_among(alloc, &self.rows, &after, moment)
+    }
+
+    /// What guests are told once one share is limited, ascending.
+    pub(crate) fn changed(
+        &self,
+        id: u32,
+        perms: Perms,
+        moment: u64,
+    ) -> Result<List<Change>, NoMemory>
+        requires low { 1 ≤ id }
+        requires high { id ≤ length self.now.shares }
+        ensures { IfOk result (λ list. list ≡ changes_by moment self.now.shares id perms) }
+    {
+        let alloc = *self.rows.allocator();
+        let closed = self.at(id).own.closed;
+        let after = reaches_with(alloc, &self.rows, id, perms.rights(), closed)?;
+        changes_among(alloc, &self.rows, &after, moment)
+    }
+}

@@ -1,0 +1,5 @@
+pub mod Answered
+pub mod DestinationForms
+pub mod PlainAddresses
+pub mod RangeForms
+pub mod RangePlaces

@@ -1,0 +1,11 @@
+pub mod Numbering
+pub mod Walking
+pub mod Counting
+pub mod Changing
+pub mod Firsts
+pub mod RecordLists
+pub mod Listing
+pub mod Labelling
+pub mod Kept
+pub mod Asking
+pub mod Removing

@@ -1,0 +1,42 @@
+ghost use Rattle.std.specs.Prelude.{◌≡◌, IfOk, option_copied};
+ghost use Rattle.ocm_rules.specs.Numbers.{at_number};
+
+use ocm_base::NoMemory;
+use ocm_types::{Offer, Phase, ProviderId, Secret};
+
+/// A received offer, with how far it has come. Records are numbered from 1.
+#[derive(Debug, Drop, PartialEq, Eq)]
+pub struct Record {
+    pub offer: Offer,
+    pub phase: Phase,
+}
+
+/// What a notification names received offers by: those with this id and this secret.
+#[derive(Debug, Drop, PartialEq, Eq, Hash)]
+pub struct Mark {
+    /// The owner's mark of the share: `providerId` (Open Cloud Mesh API 1.1).
+    pub id: ProviderId,
+    /// What the recipient shows to reach the share: `sharedSecret`.
+    pub secret: Secret,
+}
+
+impl Mark {
+    /// The mark of this id and this secret.
+    pub fn of(id: &ProviderId, secret: &Secret) -> Result<Mark, NoMemory>
+        ensures { IfOk result (λ mark. mark ≡ record { id = id.now; secret = secret.now }) }
+    {
+        let id = id.copy()?;
+        let secret = secret.copy()?;
+        Ok(Mark { id, secret })
+    }
+}
+
+/// The row of this number, where the first has number 1.
+pub(crate) fn row_at<T>(rows: &[T], number: u32) -> Option<&T>
+    ensures { option_copied result ≡ at_number rows.now number }
+{
+    match number.checked_sub(1) {
+        Some(index) => rows.get(index as usize),
+        None => None,
+    }
+}

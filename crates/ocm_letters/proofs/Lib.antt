@@ -1,0 +1,2 @@
+pub mod TextRules
+pub mod GuestMessages

@@ -1,0 +1,10 @@
+pub mod Found
+pub mod Changed
+pub mod Chains
+pub mod Reading
+pub mod Subjects
+pub mod Pushed
+pub mod Settled
+pub mod Counts
+pub mod Due
+pub mod Fronts

@@ -1,0 +1,11 @@
+pub mod Once
+pub mod Retained
+pub mod NodeLists
+pub mod IndexNumbers
+pub mod LimitNumbers
+pub mod TableKept
+pub mod Numbered
+pub mod Removed
+pub mod Carried
+pub mod Listed
+pub mod NamesInOrder

@@ -1,0 +1,42 @@
+use Rattle.std.specs.Prelude.{ℕ, ◌+◌, ◌&&◌, Bool, List, if◌then◌else◌, length, Option, Some}
+use Rattle.ocm_types.specs.declared.phases.Which.{Which}
+use Rattle.ocm_entry.specs.declared.rows.Place.{Place}
+use Rattle.ocm_entry.specs.declared.rows.Node.{Node}
+use Rattle.ocm_rules.specs.Files.{same_place, is_at_or_above, parent_of, moved, stays, size_of, is_too_long, total_size, child_count, nodes_after, Carried}
+use Rattle.ocm_tree.specs.Tables.{first_passed}
+use Rattle.ocm_tree.specs.declared.amounts.Amount.{Amount}
+use Rattle.ocm_tree.specs.declared.amounts.Amount.TheVariants.{Bytes, Nodes, Siblings}
+
+-- what callers see of a copy or move that is about to be made: where from and to, whether it moves, and the nodes that it makes
+pub record CarryLists : Type 0 where
+  pub from : Place
+  pub to : Place
+  pub moving : Bool
+  pub nodes : List Node
+
+-- a node as it stands once carried
+abbrev pub carried : Place → Place → Node → Node
+carried from to n = record { place = moved from to n.place; standing = n.standing }
+
+-- what a node at this place adds to an amount: its bytes, one node, or one node where it lies in the collection of the second place
+abbrev pub weight : Amount → Place → Node → ℕ
+weight Bytes to n = size_of n.standing
+weight Nodes to n = 1
+weight Siblings to n = if same_place (parent_of n.place) (parent_of to) then 1 else 0
+
+-- what a node adds to an amount after a copy or move: where it stays, and where it is copied to
+abbrev pub amount_of : Amount → Place → Place → Bool → Node → ℕ
+amount_of what from to moving n =
+    (if stays from to moving n then weight what to n else 0) + (if is_at_or_above from n.place then weight what to (carried from to n) else 0)
+
+-- the nodes after a copy or move
+abbrev pub after : Place → Place → Bool → List Node → List Node
+after from to moving nodes = nodes_after (Some (Carried from to moving)) nodes
+
+-- whether a node is copied to a path that is too long
+abbrev pub makes_long_path : Place → Place → Node → Bool
+makes_long_path from to n = is_at_or_above from n.place && is_too_long (carried from to n)
+
+-- the first limit that is passed by the numbers of what stands after a copy or move
+abbrev pub limit_after : List Node → Place → Place → Bool → Option Which
+limit_after nodes from to moving = first_passed (total_size (after from to moving nodes)) (length (after from to moving nodes)) (child_count (after from to moving nodes) (parent_of to))

@@ -1,0 +1,107 @@
+ghost use Rattle.std.specs.Prelude.{◌≡◌, length, false, IfOk};
+ghost use Rattle.std.specs.List.{list_any};
+ghost use Rattle.ocm_rules.specs.Files.{copies, is_too_long};
+ghost use Rattle.ocm_tree.specs.Carries.{carried, makes_long_path};
+
+use crate::moving::moved_path;
+use crate::places::is_at_or_above;
+use crate::plans::PlannedNode;
+use ocm_base::NoMemory;
+use ocm_entry::{Node, Place};
+use std::alloc::Global;
+use std::marker::Model;
+
+/// A copy or move that is about to be made, with copies of all that it makes. Contracts see where from
+/// and to, whether it moves, and the nodes that it makes.
+#[derive(Drop)]
+pub struct PlannedCarry {
+    from: Place,
+    to: Place,
+    moving: bool,
+    nodes: Vec<PlannedNode>,
+}
+
+impl Model for PlannedCarry {
+    ghost use Rattle.ocm_tree.specs.Carries.{CarryLists};
+
+    ghost Value = { CarryLists };
+
+    ghost view = { λ c. record { from = c.from; to = c.to; moving = c.moving; nodes = c.nodes.items } };
+}
+
+impl PlannedCarry {
+    /// A copy or move of the nodes at and below `from`, which are among these.
+    pub(crate) fn new(
+        alloc: Global,
+        from: &Place,
+        to: &Place,
+        moving: bool,
+        nodes: &[Node],
+    ) -> Result<PlannedCarry, NoMemory>
+        requires within { list_any (makes_long_path from.now to.now) nodes.now ≡ false }
+        ensures { IfOk result (λ planned. planned ≡ record { from = from.now; to = to.now; moving = moving; nodes = copies from.now to.now nodes.now }) }
+    {
+        let nodes = plan_copies(alloc, from, to, nodes)?;
+        let from = from.copy()?;
+        let to = to.copy()?;
+        Ok(PlannedCarry {
+            from,
+            to,
+            moving,
+            nodes,
+        })
+    }
+
+    /// How many nodes it makes.
+    pub(crate) fn len(&self) -> usize
+        ensures { result ≡ length self.now.nodes }
+    {
+        self.nodes.len()
+    }
+
+    /// Where from and to, whether it moves, and the nodes that it makes.
+    pub(crate) fn into_parts(self) -> (Place, Place, bool, Vec<PlannedNode>)
+        ensures from { result.0 ≡ self.from }
+        ensures to { result.1 ≡ self.to }
+        ensures moving { result.2 ≡ self.moving }
+        ensures nodes { result.3.items ≡ self.nodes }
+    {
+        (self.from, self.to, self.moving, self.nodes)
+    }
+}
+
+/// A copy of a node, as it stands once carried.
+fn plan_copy(alloc: Global, from: &Place, to: &Place, node: &Node) -> Result<PlannedNode, NoMemory>
+    requires within { is_too_long (carried from.now to.now node.now) ≡ false }
+    ensures { IfOk result (λ planned. planned ≡ carried from.now to.now node.now) }
+{
+    let path = moved_path(alloc, &node.place.path, &from.path, &to.path)?;
+    let parent = Place {
+        user: to.user,
+        path: path.parent()?,
+    };
+    let place = Place {
+        user: to.user,
+        path,
+    };
+    PlannedNode::new(place, parent, node.standing.copy()?)
+}
+
+/// Copies of the nodes at and below `from`, as they stand once carried.
+fn plan_copies(
+    alloc: Global,
+    from: &Place,
+    to: &Place,
+    nodes: &[Node],
+) -> Result<Vec<PlannedNode>, NoMemory>
+    requires within { list_any (makes_long_path from.now to.now) nodes.now ≡ false }
+    ensures { IfOk result (λ planned. planned.items ≡ copies from.now to.now nodes.now) }
+{
+    let mut planned = Vec::new(alloc);
+    for node in nodes {
+        if is_at_or_above(from, &node.place) {
+            planned.push(plan_copy(alloc, from, to, node)?)?;
+        }
+    }
+    Ok(planned)
+}

@@ -1,0 +1,86 @@
+ghost use Rattle.std.specs.Prelude.{◌≡◌, ◌≤◌, option_copied};
+ghost use Rattle.ocm_rules.specs.Files.{size_of, total_size};
+ghost use Rattle.ocm_tree.specs.Tables.{size_at, growth, present, first_passed};
+
+use ocm_entry::{Node, Standing};
+use ocm_types::Which;
+
+/// The most bytes that a file may have.
+pub const MOST_FILE_BYTES: u64 = 1_048_576;
+
+/// The most bytes that all files together may have.
+const MOST_BYTES: u64 = 268_435_456;
+
+/// The most nodes that may stand.
+const MOST_NODES: u64 = 65_536;
+
+/// The most nodes that may lie in one collection.
+const MOST_CHILDREN: u64 = 4_096;
+
+/// The bytes of what stands: those of a file, none for a collection.
+pub fn size_of(standing: &Standing) -> u64
+    ensures { result ≡ size_of standing.now }
+{
+    match standing {
+        Standing::Collection => 0,
+        Standing::File { body } => body.len() as u64,
+    }
+}
+
+/// The bytes of all files.
+pub fn total_size(nodes: &[Node]) -> u64
+    requires { total_size nodes.now ≤ 268435456 }
+    ensures { result ≡ total_size nodes.now }
+{
+    let mut total = 0;
+    for node in nodes {
+        total += size_of(&node.standing);
+    }
+    total
+}
+
+/// The bytes of what stands at a place.
+pub fn size_at(standing: Option<&Standing>) -> u64
+    ensures { result ≡ size_at (option_copied standing.entry) }
+{
+    match standing {
+        Some(standing) => size_of(standing),
+        None => 0,
+    }
+}
+
+/// How many more nodes there are once something stands where this stood.
+pub fn growth(standing: Option<&Standing>) -> u32
+    ensures { result ≡ growth (option_copied standing.entry) }
+{
+    match standing {
+        Some(_) => 0,
+        None => 1,
+    }
+}
+
+/// How many nodes are gone once nothing stands where this stood.
+pub fn present(standing: Option<&Standing>) -> u32
+    ensures { result ≡ present (option_copied standing.entry) }
+{
+    match standing {
+        Some(_) => 1,
+        None => 0,
+    }
+}
+
+/// The first limit that is passed by files of this total size, so many nodes, and so many nodes in
+/// one collection.
+pub fn first_passed(total: u64, count: u64, children: u64) -> Option<Which>
+    ensures { result ≡ first_passed total count children }
+{
+    if total > MOST_BYTES {
+        Some(Which::AllFiles)
+    } else if count > MOST_NODES {
+        Some(Which::Nodes)
+    } else if children > MOST_CHILDREN {
+        Some(Which::Children)
+    } else {
+        None
+    }
+}
