@@ -1,0 +1,6 @@
+pub mod Joins
+pub mod Numbering
+pub mod Owned
+pub mod Received
+pub mod Tellings
+pub mod Sending

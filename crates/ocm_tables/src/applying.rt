@@ -1,0 +1,264 @@
+//! Room for a change, and the change itself.
+ghost use Rattle.std.specs.Prelude.{◌≡◌, ◌≤◌, ◌<◌, ◌+◌, ◌++◌, length, map, All, IsSome, OnOk};
+ghost use Rattle.ocm_rules.specs.Numbers.{at_number};
+ghost use Rattle.ocm_rules.specs.State.{new_sent_row};
+ghost use Rattle.ocm_tables.specs.Changes.{Fits, FitsOutcome, FitsRequest, FitsShare, FitsUser, HasNumbers, HasRoom, IsMessage, IsRecord, IsRequest, IsShare, acted, changed, told_all, with_outcome, with_sent};
+ghost use Rattle.ocm_tables.specs.declared.changes.Change.TheVariants as changes;
+ghost use Rattle.ocm_tables.specs.declared.changes.Outcome.TheVariants as outcomes;
+
+use crate::changes::{Change, Outcome};
+use crate::tables::Tables;
+use ocm_base::{List, NoMemory};
+use ocm_chain::PlannedShare;
+use ocm_change::Board;
+use ocm_entry::Request;
+use ocm_incoming::{Mark, PlannedOffer};
+use ocm_outgoing::Outbox;
+use ocm_rules::Message;
+use ocm_types::{Perms, Phase, RequestPhase};
+use ocm_users::PlannedUser;
+
+impl Tables {
+    /// Takes the memory that a change and so many messages need. The lists stay.
+    pub fn room(&mut self, change: &Change, messages: u32) -> Result<(), NoMemory>
+        ensures state { self.new.state ≡ self.old.state }
+        ensures change { OnOk result (HasRoom self.new.room change.now) }
+        ensures messages { OnOk result (messages ≤ self.new.room.messages) }
+    {
+        self.outbox.room(messages)?;
+        self.room_for(change)?;
+        Ok(())
+    }
+
+    /// Takes the memory that a change needs in its table. The lists stay.
+    fn room_for(&mut self, change: &Change) -> Result<(), NoMemory>
+        ensures state { self.new.state ≡ self.old.state }
+        ensures change { OnOk result (HasRoom self.new.room change.now) }
+        ensures messages { self.old.room.messages ≤ self.new.room.messages }
+    {
+        match change {
+            Change::AddUser(_) => self.users.room(),
+            Change::Put(_) => self.files.room(),
+            Change::Carry(carry) => self.files.room_for(carry),
+            Change::AddShare(_) => self.shares.room(),
+            Change::Receive(_) => self.room_to_receive(),
+            Change::AddRequest(_) => self.inbox.room(),
+            Change::Nothing
+            | Change::Advance { clock: _ }
+            | Change::Remove(_)
+            | Change::Close { id: _ }
+            | Change::Limit { id: _, perms: _ }
+            | Change::Expire { id: _, until: _ }
+            | Change::SetPhase {
+                number: _,
+                phase: _,
+            }
+            | Change::TakeBack { request: _ }
+            | Change::GiveUp(_)
+            | Change::Tell {
+                numbers: _,
+                serial: _,
+                perms: _,
+            }
+            | Change::Settle {
+                number: _,
+                outcome: _,
+            } => Ok(()),
+        }
+    }
+
+    fn room_to_receive(&mut self) -> Result<(), NoMemory>
+        ensures state { self.new.state ≡ self.old.state }
+        ensures records { OnOk result (0 < self.new.room.records) }
+        ensures told { OnOk result (0 < self.new.room.told) }
+        ensures messages { self.old.room.messages ≤ self.new.room.messages }
+    {
+        self.inbox.room()?;
+        self.board.room()?;
+        Ok(())
+    }
+
+    /// Makes a change and sends its messages. It takes no memory.
+    pub fn apply(&mut self, change: Change, messages: List<Message>)
+        requires fits { Fits self.old.state change }
+        requires numbers { HasNumbers self.old.state messages }
+        requires room { HasRoom self.old.room change }
+        requires sending { length messages ≤ self.old.room.messages }
+        ensures { self.new.state ≡ changed self.old.state change messages }
+    {
+        self.act(change);
+        self.send(messages);
+    }
+
+    /// Makes a change, its messages aside.
+    fn act(&mut self, change: Change)
+        requires fits { Fits self.old.state change }
+        requires room { HasRoom self.old.room change }
+        ensures state { self.new.state ≡ acted self.old.state change }
+        ensures messages { self.old.room.messages ≤ self.new.room.messages }
+    {
+        match change {
+            Change::Nothing => {}
+            Change::Advance { clock } => self.shares.advance(clock),
+            Change::AddUser(user) => self.add_user(user),
+            Change::Put(node) => self.files.put(node),
+            Change::Remove(place) => self.files.remove(&place),
+            Change::Carry(carry) => self.files.carry(carry),
+            Change::AddShare(share) => self.add_share(share),
+            Change::Close { id } => self.close(id),
+            Change::Limit { id, perms } => self.limit(id, perms),
+            Change::Expire { id, until } => self.expire(id, until),
+            Change::Receive(offer) => self.receive(offer),
+            Change::SetPhase { number, phase } => self.set_phase(number, phase),
+            Change::AddRequest(request) => self.add_request(request),
+            Change::TakeBack { request } => self.set_state(request, RequestPhase::Undone),
+            Change::GiveUp(mark) => self.give_up(&mark),
+            Change::Tell {
+                numbers,
+                serial,
+                perms,
+            } => self.tell(&numbers, serial, perms),
+            Change::Settle { number, outcome } => self.settle(number, outcome),
+        }
+    }
+
+    fn add_user(&mut self, user: PlannedUser)
+        requires fits { FitsUser self.old.state user }
+        requires room { 0 < self.old.room.users }
+        ensures state { self.new.state ≡ acted self.old.state (changes.AddUser user) }
+        ensures messages { self.old.room.messages ≤ self.new.room.messages }
+    {
+        self.users.add(user);
+    }
+
+    fn add_share(&mut self, share: PlannedShare)
+        requires fits { FitsShare self.old.state share }
+        requires room { 0 < self.old.room.shares }
+        ensures state { self.new.state ≡ acted self.old.state (changes.AddShare share) }
+        ensures messages { self.old.room.messages ≤ self.new.room.messages }
+    {
+        let _id = self.shares.make(share);
+    }
+
+    fn close(&mut self, id: u32)
+        requires { IsShare self.old.state id }
+        ensures state { self.new.state ≡ acted self.old.state (changes.Close id) }
+        ensures messages { self.old.room.messages ≤ self.new.room.messages }
+    {
+        self.shares.close(id);
+    }
+
+    fn limit(&mut self, id: u32, perms: Perms)
+        requires share { IsShare self.old.state id }
+        requires few { self.old.state.limits < 4294967295 }
+        ensures state { self.new.state ≡ acted self.old.state (changes.Limit id perms) }
+        ensures messages { self.old.room.messages ≤ self.new.room.messages }
+    {
+        self.shares.limit(id, perms);
+        self.limits += 1;
+    }
+
+    fn expire(&mut self, id: u32, until: u64)
+        requires { IsShare self.old.state id }
+        ensures state { self.new.state ≡ acted self.old.state (changes.Expire id until) }
+        ensures messages { self.old.room.messages ≤ self.new.room.messages }
+    {
+        self.shares.expire(id, until);
+    }
+
+    fn receive(&mut self, offer: PlannedOffer)
+        requires few { length self.old.state.received < 65536 }
+        requires records { 0 < self.old.room.records }
+        requires told { 0 < self.old.room.told }
+        ensures state { self.new.state ≡ acted self.old.state (changes.Receive offer) }
+        ensures messages { self.old.room.messages ≤ self.new.room.messages }
+    {
+        let perms = offer.offer().perms;
+        let _number = self.inbox.receive(offer);
+        self.board.add(perms);
+    }
+
+    fn set_phase(&mut self, number: u32, phase: Phase)
+        requires { IsRecord self.old.state number }
+        ensures state { self.new.state ≡ acted self.old.state (changes.SetPhase number phase) }
+        ensures messages { self.old.room.messages ≤ self.new.room.messages }
+    {
+        self.inbox.set_phase(number, phase);
+    }
+
+    fn add_request(&mut self, request: Request)
+        requires fits { FitsRequest self.old.state request }
+        requires room { 0 < self.old.room.records }
+        ensures state { self.new.state ≡ acted self.old.state (changes.AddRequest request) }
+        ensures messages { self.old.room.messages ≤ self.new.room.messages }
+    {
+        let _number = self.inbox.ask(request);
+    }
+
+    fn set_state(&mut self, request: u32, state: RequestPhase)
+        requires { IsRequest self.old.state request }
+        ensures state { self.new.state ≡ with_outcome self.old.state (outcomes.SetState request state) }
+        ensures messages { self.old.room.messages ≤ self.new.room.messages }
+    {
+        self.inbox.set_state(request, state);
+    }
+
+    fn give_up(&mut self, mark: &Mark)
+        ensures state { self.new.state ≡ acted self.old.state (changes.GiveUp mark.now) }
+        ensures messages { self.old.room.messages ≤ self.new.room.messages }
+    {
+        let _count = self.inbox.removed(mark);
+    }
+
+    fn tell(&mut self, numbers: &List<u32>, serial: u32, perms: Perms)
+        requires { All (λ number. IsRecord self.old.state number) numbers.now }
+        ensures state { self.new.state ≡ acted self.old.state (changes.Tell numbers.now serial perms) }
+        ensures messages { self.old.room.messages ≤ self.new.room.messages }
+    {
+        tell_all(&mut self.board, numbers.as_slice(), serial, perms);
+    }
+
+    fn settle(&mut self, number: u32, outcome: Outcome)
+        requires message { IsMessage self.old.state number }
+        requires outcome { FitsOutcome self.old.state outcome }
+        ensures state { self.new.state ≡ acted self.old.state (changes.Settle number outcome) }
+        ensures messages { self.old.room.messages ≤ self.new.room.messages }
+    {
+        self.outbox.settle(number);
+        match outcome {
+            Outcome::Nothing => {}
+            Outcome::SetPhase { number, phase } => self.set_phase(number, phase),
+            Outcome::SetState { request, state } => self.set_state(request, state),
+        }
+    }
+
+    /// Sends messages, behind those that were sent.
+    fn send(&mut self, messages: List<Message>)
+        requires numbers { HasNumbers self.old.state messages }
+        requires room { length messages ≤ self.old.room.messages }
+        ensures { self.new.state ≡ with_sent self.old.state messages }
+    {
+        send_all(&mut self.outbox, messages);
+    }
+}
+
+/// Tells the guests of the received offers of these numbers of these permissions.
+fn tell_all(board: &mut Board, numbers: &[u32], serial: u32, perms: Perms)
+    requires { All (λ number. IsSome (at_number board.old.told number)) numbers.now }
+    ensures { board.new.told ≡ told_all numbers.now (record { serial = serial; perms = perms }) board.old.told }
+{
+    for number in numbers {
+        board.take(*number, serial, perms);
+    }
+}
+
+/// Adds messages behind those that were sent.
+fn send_all(outbox: &mut Outbox, messages: List<Message>)
+    requires few { length outbox.old.sent + length messages ≤ 1048576 }
+    requires room { length messages ≤ outbox.old.room }
+    ensures { outbox.new.sent ≡ outbox.old.sent ++ map new_sent_row messages }
+{
+    for message in messages.into_vec() {
+        let _number = outbox.push(message.subject, message.to, message.letter);
+    }
+}

@@ -1,0 +1,112 @@
+//! Users, and who holds a secret.
+ghost use Rattle.std.specs.Prelude.{◌≡◌, ◌≤◌, [], length, IfOk, IfSome, IsSome, IsTrue, option_copied};
+ghost use Rattle.ocm_types.specs.Rights.{all_rights};
+ghost use Rattle.ocm_entry.specs.Proper.{is_short};
+ghost use Rattle.ocm_rules.specs.Numbers.{at_number};
+ghost use Rattle.ocm_rules.specs.Users.{user_of_key, is_taken};
+ghost use Rattle.ocm_rules.specs.Shares.{is_used};
+ghost use Rattle.ocm_rules.specs.Holders.{grant_of, guest_of};
+ghost use Rattle.ocm_rules.specs.Views.{grant_in, is_live_in, effective_in};
+ghost use Rattle.ocm_rules.specs.State.{view_in};
+
+use crate::tables::Tables;
+use ocm_base::NoMemory;
+use ocm_entry::{Grant, Place, User};
+use ocm_path::Path;
+use ocm_types::{Name, Rights, Secret};
+use std::alloc::Global;
+
+impl Tables {
+    /// Whether a user has this name.
+    pub fn is_taken(&self, name: &Name) -> bool
+        ensures { result ≡ is_taken self.now.state.users name.now }
+    {
+        self.users.is_taken(name)
+    }
+
+    /// How many users there are.
+    pub fn user_count(&self) -> u32
+        ensures count { result ≡ length self.now.state.users }
+        ensures within { result ≤ 4096 }
+    {
+        self.users.count()
+    }
+
+    /// The user of this number, counted from 1.
+    pub fn user(&self, number: u32) -> Option<&User>
+        ensures { option_copied result ≡ at_number self.now.state.users number }
+    {
+        self.users.get(number)
+    }
+
+    /// The number of the user with this key.
+    pub fn account(&self, key: &Secret) -> Option<u32>
+        ensures number { result ≡ user_of_key self.now.state.users key.now }
+        ensures user { IfSome result (λ number. IsSome (at_number self.now.state.users number)) }
+    {
+        self.users.with_key(key)
+    }
+
+    /// Whether a secret is the key of a user or the secret of a share.
+    #[tactic(auto, using(crate::proofs::Numbering::used_found))]
+    pub fn is_used(&self, secret: &Secret) -> bool
+        ensures { result ≡ is_used self.now.state.users (view_in self.now.state).shares secret.now }
+    {
+        self.users.with_key(secret).is_some() || self.shares.find(secret).is_some()
+    }
+
+    /// What the holder of a secret may do: a user everything below the user's root, the guest of a
+    /// live share what it permits below the share's root, and anyone else nothing.
+    pub fn grant(&self, secret: &Secret) -> Result<Option<Grant>, NoMemory>
+        ensures grant { IfOk result (λ grant. grant ≡ grant_in (view_in self.now.state) secret.now) }
+        ensures short { IfOk result (λ grant. IfSome grant (λ some. IsTrue (is_short some.root.path))) }
+    {
+        if let Some(user) = self.users.with_key(secret) {
+            return Ok(Some(account_grant(self.alloc, user)));
+        }
+        match self.shares.find(secret) {
+            Some(id) => self.guest_grant(id),
+            None => Ok(None),
+        }
+    }
+
+    /// What the guest of the share of this number may do.
+    fn guest_grant(&self, id: u32) -> Result<Option<Grant>, NoMemory>
+        ensures grant { IfOk result (λ grant. grant ≡ grant_of (is_live_in (view_in self.now.state)) (effective_in (view_in self.now.state)) (guest_of (view_in self.now.state).shares id)) }
+        ensures short { IfOk result (λ grant. IfSome grant (λ some. IsTrue (is_short some.root.path))) }
+    {
+        let Some(share) = self.share(id) else {
+            return Ok(None);
+        };
+        if !self.is_live(id) {
+            return Ok(None);
+        }
+        let path = share.root.copy()?;
+        Ok(Some(Grant {
+            root: Place {
+                user: share.owner,
+                path,
+            },
+            rights: self.effective(id),
+        }))
+    }
+}
+
+/// What a user may do with the user's own files: everything.
+fn account_grant(alloc: Global, user: u32) -> Grant
+    ensures user { result.root.user ≡ user }
+    ensures path { result.root.path ≡ [] }
+    ensures rights { result.rights ≡ all_rights }
+{
+    Grant {
+        root: Place {
+            user,
+            path: Path::root(alloc),
+        },
+        rights: Rights {
+            read: true,
+            write: true,
+            share: true,
+        },
+    }
+}
