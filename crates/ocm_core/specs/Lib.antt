@@ -1,3 +1,1 @@
-pub mod Plans
-pub mod Commands
-pub mod Requests
+pub mod Standing

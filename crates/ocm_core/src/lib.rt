@@ -1,16 +1,12 @@
 //! One server's state: the reply to each ask after its history, and the change that the reply makes.
 //!
-//! An ask is answered in three steps, so that what must not fail can come last: [`Core::answer`]
-//! plans the reply and the change and leaves the state alone, [`Core::room`] takes the memory that
-//! the change needs, and [`Core::apply`] makes the change, which takes none.
+//! An ask is answered in three steps, so that what must not fail can come last: [`Core::answer`] plans
+//! the reply and the change and leaves the state alone, [`Core::room`] takes the memory that the change
+//! needs, and [`Core::apply`] makes the change, which takes none.
 #![tactic(auto)]
 
-mod changes;
-mod files;
-mod limits;
+pub mod laws;
 mod server;
-mod shares;
-mod users;
 
-pub use changes::{Change, Planned};
+pub use ocm_planning::Planned;
 pub use server::Core;

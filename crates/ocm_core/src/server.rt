@@ -1,56 +1,50 @@
-ghost use Rattle.std.specs.Prelude.{◌≡◌, ◌<◌, ◌∷◌, IfOk, OnOk, OnErr, List, IsTrue};
+ghost use Rattle.std.specs.Prelude.{◌≡◌, ◌≤◌, ◌∷◌, [], length, IfOk, OnOk, List, IsTrue, option_copied, option_map};
 ghost use Rattle.ocm_entry.specs.declared.asks.Ask.{Ask};
 ghost use Rattle.ocm_entry.specs.declared.entries.Entry.{Entry};
 ghost use Rattle.ocm_entry.specs.Proper.{is_proper};
-ghost use Rattle.ocm_first_rules.specs.Answers.{answer};
-ghost use Rattle.ocm_first_rules.specs.History.{changes, kept};
-ghost use Rattle.ocm_first_rules.specs.State.{Stands, empty_of};
-ghost use Rattle.ocm_core.specs.Plans.{Plans, Fits, changed, is_kept};
+ghost use Rattle.ocm_rules.specs.History.{answer, changes, kept};
+ghost use Rattle.ocm_rules.specs.Messages.{as_sent, out};
+ghost use Rattle.ocm_rules.specs.Numbers.{at_number};
+ghost use Rattle.ocm_rules.specs.Shares.{moment};
+ghost use Rattle.ocm_rules.specs.State.{empty_of, view_in};
+ghost use Rattle.ocm_tables.specs.Changes.{HasRoom, changed, is_kept};
+ghost use Rattle.ocm_planning.specs.Plans.{Plans};
+ghost use Rattle.ocm_core.specs.Standing.{IsAfter, IsPlanned};
 
-use crate::changes::{Change, Planned};
-use crate::files::plan_dav;
-use crate::shares::plan_command;
-use crate::users::plan_new_user;
 use ocm_base::NoMemory;
-use ocm_entry::{Ask, Reply, Why};
-use ocm_files::FileTable;
-use ocm_holders::Holders;
-use ocm_types::Host;
+use ocm_commands::plan_command;
+use ocm_entry::{Ask, Reply};
+use ocm_peers::{plan_due, plan_notice, plan_offer, plan_settle};
+use ocm_planning::{Planned, plan_new_user, plan_tick};
+use ocm_requests::{plan_carry, plan_dav};
+use ocm_tables::Tables;
+use ocm_types::{Host, Numbered};
 use std::alloc::Global;
 use std::marker::Model;
 
-/// The state of one server after its history. Contracts see the lists that the history comes to,
-/// and how many changes there is room for.
+/// The state of one server after its history. Contracts see the lists that the history comes to, and
+/// for how many more rows there is room.
 #[derive(Drop)]
 pub struct Core {
-    alloc: Global,
-    host: Host,
-    holders: Holders,
-    files: FileTable,
+    tables: Tables,
 }
 
 impl Model for Core {
-    ghost use Rattle.std.specs.Prelude.{min};
-    ghost use Rattle.ocm_core.specs.Plans.{Tables};
+    ghost use Rattle.ocm_tables.specs.Tables.{ServerLists};
 
-    ghost Value = { Tables };
+    ghost Value = { ServerLists };
 
-    ghost view = { λ c. record {
-      state = record { host = c.host; users = c.holders.users; shares = c.holders.shares; closed = c.holders.closed; nodes = c.files.nodes };
-      room = min c.holders.room c.files.room;
-    } };
+    ghost view = { λ c. c.tables };
 }
 
 impl Core {
     /// A server of this host before its first entry.
     pub fn new(alloc: Global, host: Host) -> Core
-        ensures { result.state ≡ empty_of host }
+        ensures state { result.state ≡ empty_of host }
+        ensures after { IsAfter result.state [] }
     {
         Core {
-            alloc,
-            host,
-            holders: Holders::new(alloc),
-            files: FileTable::new(alloc),
+            tables: Tables::new(alloc, host),
         }
     }
 
@@ -58,101 +52,90 @@ impl Core {
     pub fn host(&self) -> &Host
         ensures { result.now ≡ self.now.state.host }
     {
-        &self.host
+        self.tables.host()
     }
 
-    pub(crate) fn allocator(&self) -> Global {
-        self.alloc
-    }
-
-    pub(crate) fn holders(&self) -> &Holders
-        ensures users { result.now.users ≡ self.now.state.users }
-        ensures shares { result.now.shares ≡ self.now.state.shares }
-        ensures closed { result.now.closed ≡ self.now.state.closed }
+    /// The moment of the last tick, in whole seconds, and 0 before the first.
+    pub fn moment(&self) -> u64
+        ensures value { result ≡ self.now.state.moment }
+        ensures history { (g : List Entry) → IsAfter self.now.state g → result ≡ moment (kept self.now.state.host g) }
     {
-        &self.holders
+        self.tables.moment()
     }
 
-    pub(crate) fn files(&self) -> &FileTable
-        ensures { result.now.nodes ≡ self.now.state.nodes }
+    /// The message of this number, settled or not, as it is sent. None where there is none.
+    pub fn message(&self, number: u32) -> Option<&Numbered>
+        ensures value { option_copied result ≡ option_map (λ message. as_sent (number, message)) (at_number (view_in self.now.state).messages number) }
+        ensures history { (g : List Entry) → IsAfter self.now.state g
+            → option_copied result ≡ option_map (λ message. as_sent (number, message)) (at_number (out self.now.state.host (kept self.now.state.host g)) number) }
     {
-        &self.files
+        self.tables.message(number)
     }
 
     /// The reply to an ask, and the change that it makes. The state stays.
     pub fn answer(&self, ask: &Ask) -> Result<Planned, NoMemory>
         requires { IsTrue (is_proper ask.now) }
         ensures plans { IfOk result (λ plan. Plans self.now.state ask.now plan) }
-        ensures answer { IfOk result (λ plan. (g : List Entry) → Stands self.now.state g → plan.reply ≡ answer self.now.state.host g ask.now) }
-        ensures changes { IfOk result (λ plan. (g : List Entry) → Stands self.now.state g
+        ensures reply { IfOk result (λ plan. (g : List Entry) → IsAfter self.now.state g → plan.reply ≡ answer self.now.state.host g ask.now) }
+        ensures changes { IfOk result (λ plan. (g : List Entry) → IsAfter self.now.state g
             → is_kept plan.change ≡ changes self.now.state.host (kept self.now.state.host g) (record { ask = ask.now; reply = plan.reply })) }
     {
-        let planned = self.plan(ask)?;
+        let planned = plan(&self.tables, ask)?;
         Ok(planned)
     }
 
-    fn plan(&self, ask: &Ask) -> Result<Planned, NoMemory>
-        requires { IsTrue (is_proper ask.now) }
-        ensures { IfOk result (λ plan. Plans self.now.state ask.now plan) }
-    {
-        match ask {
-            Ask::AddUser { name, fresh } => plan_new_user(self, name, fresh),
-            Ask::Local { key, cmd } => plan_command(self, key, cmd),
-            Ask::Dav {
-                secret,
-                method,
-                path,
-                body,
-            } => plan_dav(self, secret, *method, path, body),
-            Ask::Offer { offer: _ }
-            | Ask::Notice {
-                notice: _,
-                fresh: _,
-            }
-            | Ask::Due
-            | Ask::Settle {
-                number: _,
-                status: _,
-                id: _,
-            }
-            | Ask::Tick { clock: _ }
-            | Ask::Carry {
-                secret: _,
-                from: _,
-                to: _,
-                moving: _,
-                overwrite: _,
-            } => Ok(Planned::refused(Why::NotAllowed)),
-        }
-    }
-
-    /// Takes the memory that the change needs. The state stays.
-    pub fn room(&mut self, _planned: &Planned) -> Result<(), NoMemory>
+    /// Takes the memory that the change needs. The plan is one for this state, which stays.
+    pub fn room(&mut self, planned: &Planned) -> Result<(), NoMemory>
+        requires { IsPlanned self.old.state planned.now }
         ensures state { self.new.state ≡ self.old.state }
-        ensures ok { OnOk result (0 < self.new.room) }
+        ensures change { OnOk result (HasRoom self.new.room planned.now.change) }
+        ensures messages { OnOk result (length planned.now.sent ≤ self.new.room.messages) }
     {
-        self.holders.room()?;
-        self.files.room()?;
-        Ok(())
+        self.tables
+            .room(planned.change(), planned.sent().len() as u32)
     }
 
-    /// Makes the change, which takes no memory, and gives the reply.
+    /// Makes the change, which takes no memory, and gives the reply. The plan is one for this state, and
+    /// there is room for it.
     pub fn apply(&mut self, planned: Planned) -> Reply
-        requires room { 0 < self.old.room }
-        requires fits { Fits self.old.state planned.change }
-        ensures state { self.new.state ≡ changed self.old.state planned.change }
+        requires planned { IsPlanned self.old.state planned }
+        requires room { HasRoom self.old.room planned.change }
+        requires messages { length planned.sent ≤ self.old.room.messages }
         ensures reply { result ≡ planned.reply }
-        ensures stands { (g : List Entry) (ask : Ask) → Stands self.old.state g → Plans self.old.state ask planned
-            → Stands self.new.state (record { ask = ask; reply = result } ∷ g) }
+        ensures host { self.new.state.host ≡ self.old.state.host }
+        ensures after { (g : List Entry) (ask : Ask) → IsAfter self.old.state g → Plans self.old.state ask planned → IsAfter self.new.state (record { ask = ask; reply = result } ∷ g) }
     {
-        let (reply, change) = planned.into_parts();
-        match change {
-            Change::Nothing => {}
-            Change::AddUser(user) => self.holders.add_user(user),
-            Change::AddShare(share) => self.holders.add_share(share),
-            Change::Close(id) => self.holders.close(id),
-            Change::Put(node) => self.files.put(node),
-        }
+        let (reply, change, sent) = planned.into_parts();
+        self.tables.apply(change, sent);
         reply
+    }
+}
+
+/// The plan for an ask.
+fn plan(tables: &Tables, ask: &Ask) -> Result<Planned, NoMemory>
+    requires { IsTrue (is_proper ask.now) }
+    ensures { IfOk result (λ plan. Plans tables.now.state ask.now plan) }
+{
+    match ask {
+        Ask::AddUser { name, fresh } => plan_new_user(tables, name, fresh),
+        Ask::Local { key, cmd } => plan_command(tables, key, cmd),
+        Ask::Offer { offer } => plan_offer(tables, offer),
+        Ask::Notice { notice, fresh } => plan_notice(tables, notice, fresh),
+        Ask::Dav {
+            secret,
+            method,
+            path,
+            body,
+        } => plan_dav(tables, secret, *method, path, body),
+        Ask::Due => plan_due(tables),
+        Ask::Settle { number, status, id } => plan_settle(tables, *number, *status, id.as_ref()),
+        Ask::Tick { clock } => Ok(plan_tick(tables, *clock)),
+        Ask::Carry {
+            secret,
+            from,
+            to,
+            moving,
+            overwrite,
+        } => plan_carry(tables, secret, from, to, *moving, *overwrite),
     }
 }

@@ -55,9 +55,10 @@ impl Outbox {
         }
     }
 
-    /// How many messages there are.
+    /// How many messages there are, at most 1,048,576.
     pub fn count(&self) -> u32
-        ensures { result ≡ length self.now.sent }
+        ensures value { result ≡ length self.now.sent }
+        ensures within { length self.now.sent ≤ 1048576 }
     {
         self.rows.len() as u32
     }

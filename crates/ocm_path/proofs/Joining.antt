@@ -42,3 +42,11 @@ is_path-take path n sound =
     let bounded = path_text-bounded path sound in
     let shorter = length-path_text-take path n in
     is_path-from_parts (take n path) front.0 (omega arith)
+
+-- segments of a path behind another path are a path, where their text is short
+pub is_path-moved : (to path : Segments) (n : ℕ) → is_path to ≡ true → is_path path ≡ true → length (path_text (to ++ drop n path)) ≤ 2048 → is_path (to ++ drop n path) ≡ true
+is_path-moved to path n sound_to sound short =
+    let first = and_parts (list_all is_segment to) _ sound_to in
+    let each = and_parts (list_all is_segment path) _ sound in
+    let both = and_parts (list_all is_segment (take n path)) _ (sym (list_all-append is_segment (take n path) (drop n path)) ∙ ap (list_all is_segment) (take-append-drop n path) ∙ each.0) in
+    is_path-from_parts (to ++ drop n path) (list_all-append is_segment to (drop n path) ∙ and_from _ _ first.0 both.1) short

@@ -1,9 +1,9 @@
-ghost use Rattle.std.specs.Prelude.{◌≡◌, ◌≢◌, [], ◌++◌, ◌≤◌, length, Some, None, Ok, Err, IfOk, IfErr, IsTrue, option_copied};
+ghost use Rattle.std.specs.Prelude.{◌≡◌, ◌≢◌, [], ◌++◌, ◌≤◌, length, drop, Some, None, Ok, Err, IfOk, IfErr, IsTrue, option_copied};
 ghost use Rattle.ocm_path.specs.Paths.{parent, is_root, last, is_above, path_text, path_escaped, is_path, path_below, path_of, path_given};
 
 use crate::faults::PathFault;
 use crate::reading::{read_segments, without_last_slash};
-use crate::segments::{add_copies, joined, joined_escaped, joined_len};
+use crate::segments::{add_copies, behind, joined, joined_escaped, joined_len};
 use ocm_base::{List, NoMemory, Text};
 use std::alloc::Global;
 use std::hash::{Hash, Hasher};
@@ -146,6 +146,19 @@ impl Path {
     {
         let mut segments = self.segments.copy()?;
         add_copies(&mut segments, below.segments.as_slice())?;
+        Ok(Path { segments })
+    }
+
+    /// The path at which lies what lay here, at or below `from`, once `from` is moved to `to`: these
+    /// segments, with those of `to` in place of as many as `from` has. The text of what is made has at
+    /// most 2,048 bytes.
+    pub fn moved(&self, from: &Path, to: &Path) -> Result<Path, NoMemory>
+        requires within { length (path_text (to.now ++ drop (length from.now) self.now)) ≤ 2048 }
+        ensures { IfOk result (λ path. path ≡ to.now ++ drop (length from.now) self.now) }
+    {
+        let mut segments = to.segments.copy()?;
+        let rest = behind(self.segments.as_slice(), from.segments.len());
+        add_copies(&mut segments, rest)?;
         Ok(Path { segments })
     }
 

@@ -1,4 +1,4 @@
-ghost use Rattle.std.specs.Prelude.{◌≡◌, ◌++◌, ◌-◌, ◌^◌, min, length, IfOk, OnOk, OnErr, string_bytes};
+ghost use Rattle.std.specs.Prelude.{◌≡◌, ◌++◌, ◌-◌, ◌^◌, min, length, drop, IfOk, OnOk, OnErr, string_bytes};
 ghost use Rattle.std.specs.List.{list_any};
 ghost use Rattle.std.specs.Cmp.Lexicographic.{pointwise};
 ghost use Rattle.std.specs.Prelude.{nat_eq};
@@ -83,6 +83,13 @@ pub fn joined_len(segments: &[Text]) -> usize
         len = len.saturating_add(1).saturating_add(segment.as_str().len());
     }
     len
+}
+
+/// The segments behind the first so many.
+pub fn behind(segments: &[Text], count: usize) -> &[Text]
+    ensures { result.now ≡ drop count segments.now }
+{
+    &segments[count.min(segments.len())..]
 }
 
 /// Adds copies of segments to a list.

@@ -1,4 +1,7 @@
 pub mod Lines
 pub mod Words
+pub mod Gives
 pub mod Events
+pub mod Bodies
+pub mod Forms
 pub mod Script

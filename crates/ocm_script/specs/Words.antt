@@ -1,7 +1,8 @@
--- The words of a line, and what a word of each kind is read as.
-use Rattle.std.specs.Prelude.{ℕ, ◌+◌, List, [], ◌∷◌, length, take, drop, nat_eq, nat_le, Bool, false, Option, Some, None, position, find, bytes_eq, option_map, option_and_then, if◌then◌else◌}
+-- The words of a line, what a word of each kind is read as, and how the words of a line follow one another.
+use Rattle.std.specs.Prelude.{ℕ, ◌+◌, List, [], ◌∷◌, length, take, drop, nat_eq, nat_lt, nat_le, ◌&&◌, Bool, true, false, Option, Some, None, is_none, position, find, bytes_eq, codes, option_map, option_and_then, if◌then◌else◌}
 use Rattle.std.specs.Str.{is_utf8}
 use Rattle.ocm_base.specs.Decimal.{decimal_of}
+use Rattle.ocm_base.specs.Hex.{hex_text_of}
 use Rattle.ocm_types.specs.Texts as texts
 use Rattle.ocm_types.specs.Draws.{fresh_of}
 use Rattle.ocm_types.specs.Rights.{perms_of}
@@ -10,6 +11,7 @@ use Rattle.ocm_types.specs.Addresses.{canonical_address_of}
 use Rattle.ocm_types.specs.declared.addresses.Address.{Address}
 use Rattle.ocm_types.specs.declared.rights.Rights.{Rights}
 use Rattle.ocm_path.specs.Paths.{path_given}
+use Rattle.ocm_script.specs.declared.events.Event.{Event}
 
 -- one reading after another, as long as each gives something
 infixl 10 ◌>>=◌
@@ -90,12 +92,28 @@ perms_word word = do
   text ← text_of word
   perms_of text
 
+-- permissions, or `-` for none
+unfoldable pub perms_if_word : List ℕ → Option (Option Rights)
+perms_if_word word = if bytes_eq word (codes "-") then Some None else option_map Some (perms_word word)
+
 -- a decimal of at most that number
 unfoldable pub number_word : ℕ → List ℕ → Option ℕ
 number_word most word = do
   text ← text_of word
   number ← decimal_of text
   when (nat_le number most) number
+
+-- two lower-case hexadecimal digits for each byte
+unfoldable pub digits_word : List ℕ → Option (List ℕ)
+digits_word word = do
+  text ← text_of word
+  hex_text_of text
+
+-- whether what stands at the target is replaced: `overwrite`, or `keep`
+unfoldable pub overwrite_word : List ℕ → Option Bool
+overwrite_word word =
+    if bytes_eq word (codes "overwrite") then Some true
+    else (if bytes_eq word (codes "keep") then Some false else None)
 
 -- whether a text begins with `/`
 abbrev pub begins_with_slash : List ℕ → Bool
@@ -112,3 +130,37 @@ path_word word = do
 -- the host among these that the word names
 abbrev pub known : List (List ℕ) → List ℕ → Option (List ℕ)
 known named word = find (λ host. bytes_eq host word) named
+
+-- the most servers of a script
+abbrev pub most_nodes : ℕ
+most_nodes = 16
+
+-- a host in its canonical text that is not named before, as long as there may be more servers
+unfoldable pub new_host : List (List ℕ) → List ℕ → Option (List ℕ)
+new_host named word = do
+  host ← host_word word
+  when (nat_lt (length named) most_nodes && is_none (known named host)) host
+
+-- the greatest number of a line
+abbrev pub most_number : ℕ
+most_number = 4294967295
+
+-- the next word, as one of a kind, and what follows it
+unfoldable pub next : {A : Type 0} → (List ℕ → Option A) → Option (List ℕ) → Option (A × Option (List ℕ))
+next kind rest = do
+  w ← word rest
+  x ← kind w.0
+  Some (x, w.1)
+
+-- a word of a kind, and what is read behind it
+infixr 20 ◌▸◌
+abbrev pub ◌▸◌ : {A : Type 0} → (List ℕ → Option A) → (A → Option (List ℕ) → Option Event) → Option (List ℕ) → Option Event
+kind ▸ on = λ rest. next kind rest >>= λ x. on x.0 x.1
+
+-- the event of a line that ends here
+abbrev pub ends : Event → Option (List ℕ) → Option Event
+ends event rest = ended rest >>= λ _. Some event
+
+-- the event by what remains of a line behind a space, which may be any bytes
+abbrev pub remaining : (List ℕ → Option Event) → Option (List ℕ) → Option Event
+remaining read rest = rest >>= read

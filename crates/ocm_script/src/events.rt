@@ -1,12 +1,14 @@
-ghost use Rattle.std.specs.Prelude.{◌≡◌, IfOk};
-ghost use Rattle.ocm_script.specs.Events.{bytes_of};
+ghost use Rattle.std.specs.Prelude.{◌≡◌, IfOk, option_copied};
+ghost use Rattle.ocm_script.specs.Events.{bytes_of, host_of, node_of};
 
 use ocm_base::{Bytes, NoMemory};
+use ocm_entry::{Cmd, Method};
 use ocm_path::Path;
-use ocm_types::{Address, Fresh, Host, Name, Perms, Secret};
+use ocm_records::RecordFault;
+use ocm_types::{Address, Fresh, Host, Name, Notice, Offer, Perms, Secret};
 use std::alloc::Global;
 
-/// What a line of a script says.
+/// What a line of a script says. In each but the first, `host` names the server that it is about.
 #[derive(Debug, Drop, PartialEq, Eq)]
 pub enum Event {
     /// An empty line or a comment: nothing happens.
@@ -15,12 +17,25 @@ pub enum Event {
     Node {
         host: Host,
     },
-    /// A user is added at a server.
+    /// A user is added.
     User {
         host: Host,
         name: Name,
         /// What the user's key is drawn from.
         fresh: Fresh,
+    },
+    /// A user, named by its key, gives a command.
+    Local {
+        host: Host,
+        key: Secret,
+        cmd: Cmd,
+    },
+    /// A request for files by the holder of a secret, by a method other than PUT and without a body.
+    Dav {
+        host: Host,
+        secret: Secret,
+        method: Method,
+        path: Path,
     },
     /// A file is put, by the holder of a secret.
     Put {
@@ -29,28 +44,47 @@ pub enum Event {
         path: Path,
         body: Body,
     },
-    /// A file is got, by the holder of a secret.
-    Get {
+    /// What stands at a path is copied, or moved, by the holder of a secret.
+    Carry {
         host: Host,
         secret: Secret,
-        path: Path,
+        from: Path,
+        to: Path,
+        moving: bool,
+        /// Whether what stands at the target is replaced.
+        overwrite: bool,
     },
-    /// A user, named by its key, shares what is at a path.
-    Share {
+    /// The time is told to the server, in whole seconds since the epoch.
+    Clock {
         host: Host,
-        key: Secret,
-        path: Path,
-        /// The user that it is shared with.
-        with: Address,
-        perms: Perms,
-        /// What the share's secret is drawn from.
+        clock: u32,
+    },
+    /// An offer comes in, which no server sent: what its bytes are read as.
+    Offer {
+        host: Host,
+        offer: Result<Offer, RecordFault>,
+    },
+    /// A notification comes in, which no server sent: what its bytes are read as.
+    Notice {
+        host: Host,
+        /// What the secret of a share that it makes is drawn from.
         fresh: Fresh,
+        notice: Result<Notice, RecordFault>,
     },
-    /// A user, named by its key, closes its share of this number.
-    Unshare {
+    /// A message of the server is given to the one that it is for. The reply comes back, or is lost.
+    Deliver {
         host: Host,
-        key: Secret,
-        id: u32,
+        /// The message's number.
+        number: u32,
+        /// What the secret of a share that it makes is drawn from.
+        fresh: Fresh,
+        lost: bool,
+    },
+    /// All messages of the server that are due are given to those that they are for.
+    Pump {
+        host: Host,
+        /// What the secret of a share that the first makes is drawn from; one more for each further one.
+        fresh: Fresh,
     },
 }
 
@@ -74,6 +108,38 @@ impl Body {
                 let filled = vec![in alloc; *byte; *count as usize]?;
                 Ok(Bytes::from_vec(filled))
             }
+        }
+    }
+}
+
+impl Event {
+    /// The host of the server that the line is about. An empty line and a comment are about none.
+    pub fn host(&self) -> Option<&Host>
+        ensures { option_copied result ≡ host_of self.now }
+    {
+        match self {
+            Event::Quiet => None,
+            Event::Node { host }
+            | Event::User { host, .. }
+            | Event::Local { host, .. }
+            | Event::Dav { host, .. }
+            | Event::Put { host, .. }
+            | Event::Carry { host, .. }
+            | Event::Clock { host, .. }
+            | Event::Offer { host, .. }
+            | Event::Notice { host, .. }
+            | Event::Deliver { host, .. }
+            | Event::Pump { host, .. } => Some(host),
+        }
+    }
+
+    /// The host of the server that the line makes, if it makes one.
+    pub fn node(&self) -> Option<&Host>
+        ensures { option_copied result ≡ node_of self.now }
+    {
+        match self {
+            Event::Node { host } => Some(host),
+            _ => None,
         }
     }
 }

@@ -7,28 +7,49 @@
 //! space between each two, in one of these forms, with nothing behind:
 //!
 //! ```text
-//! node HOST                                a server; at most one
-//! user HOST NAME FRESH                     a user, whose key is drawn from FRESH
-//! put HOST SECRET PATH text:J              a file of the bytes J: the rest of the line
-//! put HOST SECRET PATH hex:DIGITS          a file of these bytes
-//! put HOST SECRET PATH fill:DD:COUNT       a file of COUNT times the byte DD, at most 2,000,000
-//! get HOST SECRET PATH                     a file is got
-//! share HOST SECRET PATH ADDRESS LIST FRESH    what is at a path is shared
-//! unshare HOST SECRET ID                   a share is closed, by its number
+//! node HOST                                     a server; at most 16
+//! user HOST NAME FRESH                          a user, whose key is drawn from FRESH
+//! share HOST KEY PATH ADDRESS LIST FRESH        a user shares what is at a path
+//! unshare HOST KEY NUMBER                       a share is closed
+//! limit HOST KEY NUMBER LIST                    a share gets other permissions
+//! accept HOST KEY NUMBER                        a received share is taken
+//! decline HOST KEY NUMBER                       a received share is given back
+//! reshare HOST KEY NUMBER ADDRESS LIST          the owner is asked to share further; `-` for no LIST
+//! undo HOST KEY NUMBER                          a further share is taken back
+//! list HOST KEY                                 all shares, received shares and requests
+//! expire HOST KEY NUMBER NUMBER                 a share ends at a moment, the second number
+//! get HOST SECRET PATH                          a file is got; so `head`, `delete`, `mkcol`, `list0`, `list1`
+//! put HOST SECRET PATH text:J                   a file of the bytes J: the rest of the line
+//! put HOST SECRET PATH hex:DIGITS               a file of these bytes
+//! put HOST SECRET PATH fill:DD:COUNT            a file of COUNT times the byte DD, at most 2,000,000
+//! copy HOST SECRET PATH PATH overwrite          what is at the first path is copied to the second; or `keep`
+//! move HOST SECRET PATH PATH overwrite          the same, moved
+//! clock HOST NUMBER                             the time, in seconds since the epoch
+//! offer HOST J                                  an offer that no server sent
+//! notice HOST FRESH J                           a notification that no server sent
+//! deliver HOST NUMBER FRESH                     a message is given to the server that it is for
+//! lost HOST NUMBER FRESH                        the same, and the reply does not come back
+//! pump HOST FRESH                               all messages that are due are given to their servers
 //! ```
 //!
-//! `node` names a canonical host, and elsewhere HOST is one that an earlier line named. A FRESH is 32
-//! hexadecimal digits, the digits of bytes are an even number, and both are lower-case. A PATH is
-//! percent-encoded and begins with `/`; an ADDRESS is in its canonical text; a LIST is some of `read`,
-//! `write` and `share`, in this order, with a comma between each two; an ID is a decimal below 2^32 and,
-//! as COUNT, has no leading zero. A word is UTF-8; J may be any bytes.
+//! `node` names a canonical host that no line before it names, and elsewhere HOST is one that an earlier
+//! line named. A FRESH is 32 hexadecimal digits, the digits of bytes are an even number, and both are
+//! lower-case. A PATH is percent-encoded and begins with `/`; an ADDRESS is in its canonical text; a LIST
+//! is some of `read`, `write` and `share`, in this order, with a comma between each two; a NUMBER is a
+//! decimal below 2^32 and, as COUNT, has no leading zero. A word is UTF-8; J may be any bytes, or none.
 #![tactic(auto)]
 
+mod bodies;
+mod command_lines;
 mod events;
 mod faults;
+mod file_lines;
 mod forms;
+mod letter_lines;
 mod lines;
+mod next_words;
 mod scripts;
+mod server_lines;
 #[cfg(test)]
 mod tests;
 mod words;

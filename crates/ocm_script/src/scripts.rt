@@ -1,6 +1,6 @@
-ghost use Rattle.std.specs.Prelude.{◌≡◌, ◌≢◌, ◌<◌, ◌≤◌, ◌↔◌, [], length, Err, IfOk, IsTrue};
+ghost use Rattle.std.specs.Prelude.{◌≡◌, ◌≢◌, ◌<◌, ◌≤◌, ◌↔◌, [], length, Err, IfOk, IsTrue, OnOk};
 ghost use Rattle.std.specs.List.{list_all};
-ghost use Rattle.ocm_script.specs.Events.{has_short_path};
+ghost use Rattle.ocm_script.specs.Events.{has_short_paths};
 ghost use Rattle.ocm_script.specs.Lines.{lines_of, most_lines};
 ghost use Rattle.ocm_script.specs.Script as script;
 ghost use Rattle.ocm_script.specs.Script.{Reads, script_of};
@@ -9,7 +9,8 @@ use crate::events::Event;
 use crate::faults::{LineFault, ScriptFault};
 use crate::forms::event_of;
 use crate::lines::{count_lines, first_line};
-use ocm_base::List;
+use ocm_base::{List, NoMemory};
+use ocm_types::Host;
 use std::alloc::Global;
 
 /// The most lines of a script.
@@ -20,7 +21,7 @@ pub fn read_script(alloc: Global, bytes: &[u8]) -> Result<List<Event>, ScriptFau
     ensures exact { Reads result (script_of bytes.now) }
     ensures each_line { IfOk result (λ events. length events ≡ length (lines_of bytes.now)) }
     ensures within { IfOk result (λ events. length events ≤ most_lines) }
-    ensures short { IfOk result (λ events. IsTrue (list_all has_short_path events)) }
+    ensures short { IfOk result (λ events. IsTrue (list_all has_short_paths events)) }
     ensures too_many { (result ≡ Err ScriptFault.TooMany)
         ↔ (most_lines < length (lines_of bytes.now)) }
 {
@@ -31,12 +32,22 @@ pub fn read_script(alloc: Global, bytes: &[u8]) -> Result<List<Event>, ScriptFau
     Ok(events)
 }
 
+/// Names the host of the server that an event makes, if it makes one.
+fn name_node(named: &mut List<Host>, event: &Event) -> Result<(), NoMemory>
+    ensures { OnOk result (named.new ≡ script.named_after named.old event.now) }
+{
+    if let Some(host) = event.node() {
+        named.push(host.copy()?)?;
+    }
+    Ok(())
+}
+
 /// The events of at most so many lines.
 fn events_of(alloc: Global, bytes: &[u8]) -> Result<List<Event>, ScriptFault>
     requires { length (lines_of bytes.now) ≤ most_lines }
     ensures exact { Reads result (script.events_of 1 [] (lines_of bytes.now)) }
     ensures each_line { IfOk result (λ events. length events ≡ length (lines_of bytes.now)) }
-    ensures short { IfOk result (λ events. IsTrue (list_all has_short_path events)) }
+    ensures short { IfOk result (λ events. IsTrue (list_all has_short_paths events)) }
     ensures not_many { result ≢ Err ScriptFault.TooMany }
 {
     let mut events = List::new(alloc);
@@ -50,9 +61,7 @@ fn events_of(alloc: Global, bytes: &[u8]) -> Result<List<Event>, ScriptFault>
             Err(LineFault::Bad) => return Err(ScriptFault::Line(number)),
             Err(LineFault::NoMemory) => return Err(ScriptFault::NoMemory),
         };
-        if let Event::Node { host } = &event {
-            named.push(host.copy()?)?;
-        }
+        name_node(&mut named, &event)?;
         events.push(event)?;
         rest = behind;
         number += 1;

@@ -1,13 +1,17 @@
-ghost use Rattle.std.specs.Prelude.{◌≡◌, Some, IfOk, IsTrue, position, bytes_eq, option_copied};
-ghost use Rattle.ocm_script.specs.Events.{is_short};
+ghost use Rattle.std.specs.Prelude.{◌≡◌, Some, IfOk, IsTrue, not, is_none, position, bytes_eq, option_copied};
+ghost use Rattle.ocm_base.specs.Hex.{hex_text_of};
+ghost use Rattle.ocm_entry.specs.Proper.{is_short};
 ghost use Rattle.ocm_script.specs.Words as words;
-ghost use Rattle.ocm_script.specs.Script.{Gives};
+ghost use Rattle.ocm_script.specs.Gives.{Gives};
 
 use crate::faults::LineFault;
-use ocm_base::{NoMemory, decimal_read};
+use ocm_base::{Bytes, HexFault, NoMemory, decimal_read, hex_read};
 use ocm_path::{Path, PathFault};
 use ocm_types::{Address, Fresh, Host, Name, Perms, Secret, TextFault};
 use std::alloc::Global;
+
+/// The most servers of a script.
+const MOST_NODES: usize = 16;
 
 fn space_in(line: &[u8]) -> Option<usize>
     ensures { result ≡ position words.is_space line.now }
@@ -43,6 +47,16 @@ pub fn ended(rest: Option<&[u8]>) -> Result<(), LineFault>
     match rest {
         None => Ok(()),
         Some(_) => Err(LineFault::Bad),
+    }
+}
+
+/// What remains of the line behind a space, which may be any bytes.
+pub fn remaining(rest: Option<&[u8]>) -> Result<&[u8], LineFault>
+    ensures { Gives (λ x. x.now) result (option_copied rest.entry) }
+{
+    match rest {
+        Some(bytes) => Ok(bytes),
+        None => Err(LineFault::Bad),
     }
 }
 
@@ -114,7 +128,7 @@ pub fn fresh_word(word: &[u8]) -> Result<Fresh, LineFault>
 
 /// A host in its canonical text.
 #[tactic(auto, unfolding(crate::specs::Words::host_word))]
-pub fn host_word(alloc: Global, word: &[u8]) -> Result<Host, LineFault>
+fn host_word(alloc: Global, word: &[u8]) -> Result<Host, LineFault>
     ensures { Gives (λ host. host) result (words.host_word word.now) }
 {
     let text = text_of(word)?;
@@ -155,6 +169,18 @@ pub fn perms_word(word: &[u8]) -> Result<Perms, LineFault>
     }
 }
 
+/// Permissions, or `-` for none.
+#[tactic(auto, unfolding(crate::specs::Words::perms_if_word))]
+pub fn perms_if_word(word: &[u8]) -> Result<Option<Perms>, LineFault>
+    ensures { Gives (λ perms. perms) result (words.perms_if_word word.now) }
+{
+    if is_word(word, b"-") {
+        return Ok(None);
+    }
+    let perms = perms_word(word)?;
+    Ok(Some(perms))
+}
+
 /// A decimal of at most that number.
 #[tactic(auto, unfolding(crate::specs::Words::number_word))]
 pub fn number_word(most: u32, word: &[u8]) -> Result<u32, LineFault>
@@ -164,6 +190,41 @@ pub fn number_word(most: u32, word: &[u8]) -> Result<u32, LineFault>
     match decimal_read(text) {
         Some(number) if number <= most as u64 => Ok(number as u32),
         _ => Err(LineFault::Bad),
+    }
+}
+
+/// The bytes that lower-case hexadecimal digits spell.
+fn spelled(alloc: Global, digits: &str) -> Result<Bytes, LineFault>
+    ensures { Gives (λ x. x) result (hex_text_of digits.now) }
+{
+    match hex_read(alloc, digits) {
+        Ok(bytes) => Ok(bytes),
+        Err(HexFault::Odd) => Err(LineFault::Bad),
+        Err(HexFault::Digit(_)) => Err(LineFault::Bad),
+        Err(HexFault::NoMemory) => Err(LineFault::NoMemory),
+    }
+}
+
+/// Two lower-case hexadecimal digits for each byte.
+#[tactic(auto, unfolding(crate::specs::Words::digits_word))]
+pub fn digits_word(alloc: Global, word: &[u8]) -> Result<Bytes, LineFault>
+    ensures { Gives (λ bytes. bytes) result (words.digits_word word.now) }
+{
+    let text = text_of(word)?;
+    spelled(alloc, text)
+}
+
+/// Whether what stands at the target is replaced: `overwrite`, or `keep`.
+#[tactic(auto, unfolding(crate::specs::Words::overwrite_word))]
+pub fn overwrite_word(word: &[u8]) -> Result<bool, LineFault>
+    ensures { Gives (λ overwrite. overwrite) result (words.overwrite_word word.now) }
+{
+    if is_word(word, b"overwrite") {
+        Ok(true)
+    } else if is_word(word, b"keep") {
+        Ok(false)
+    } else {
+        Err(LineFault::Bad)
     }
 }
 
@@ -200,7 +261,7 @@ fn has_text(host: &Host, word: &[u8]) -> bool
 }
 
 /// The host among these that the word names.
-pub fn found<'a>(named: &'a [Host], word: &[u8]) -> Option<&'a Host>
+fn found<'a>(named: &'a [Host], word: &[u8]) -> Option<&'a Host>
     ensures { option_copied result ≡ words.known named.now word.now }
 {
     named.iter().find(|host| has_text(host, word))
@@ -221,4 +282,22 @@ fn copy_of(host: &Host) -> Result<Host, LineFault>
 {
     let copy = host.copy()?;
     Ok(copy)
+}
+
+/// A host in its canonical text that is not named before, as long as there may be more servers.
+#[tactic(auto, unfolding(crate::specs::Words::new_host))]
+pub fn new_host(alloc: Global, named: &[Host], word: &[u8]) -> Result<Host, LineFault>
+    ensures { Gives (λ host. host) result (words.new_host named.now word.now) }
+{
+    let host = host_word(alloc, word)?;
+    if named.len() >= MOST_NODES || is_named(named, &host) {
+        return Err(LineFault::Bad);
+    }
+    Ok(host)
+}
+
+fn is_named(named: &[Host], host: &Host) -> bool
+    ensures { not result ≡ is_none (words.known named.now host.now) }
+{
+    found(named, host.as_str().as_bytes()).is_some()
 }

@@ -1,5 +1,5 @@
 //! Messages to other servers.
-ghost use Rattle.std.specs.Prelude.{◌≡◌, length, IfOk, IfSome, IsSome, option_copied, option_map};
+ghost use Rattle.std.specs.Prelude.{◌≡◌, ◌≤◌, length, IfOk, IfSome, IsSome, option_copied, option_map};
 ghost use Rattle.ocm_rules.specs.declared.rows.Message.{Message};
 ghost use Rattle.ocm_rules.specs.Numbers.{at_number};
 ghost use Rattle.ocm_rules.specs.Messages.{as_sent, change_count, due_among};
@@ -14,7 +14,8 @@ use ocm_types::{Numbered, ProviderId};
 impl Tables {
     /// How many messages there are.
     pub fn message_count(&self) -> u32
-        ensures { result ≡ length self.now.state.sent }
+        ensures count { result ≡ length self.now.state.sent }
+        ensures within { length self.now.state.sent ≤ 1048576 }
     {
         self.outbox.count()
     }

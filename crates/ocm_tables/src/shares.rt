@@ -13,7 +13,7 @@ use crate::tables::Tables;
 use ocm_base::{List, NoMemory};
 use ocm_chain::Change;
 use ocm_entry::Share;
-use ocm_letters::named;
+use ocm_letters::{SharesByNumber, named};
 use ocm_types::{Perms, ProviderId, Rights, Secret, SenderId};
 
 impl Tables {
@@ -47,6 +47,14 @@ impl Tables {
         ensures { result ≡ is_live_in (view_in self.now.state) id }
     {
         self.shares.is_live(id)
+    }
+
+    /// The permissions of the share of this number: those of its last limit, else what was granted.
+    pub fn perms(&self, id: u32) -> Perms
+        requires { IsSome (at_number (view_in self.now.state).shares id) }
+        ensures { result ≡ (view_in self.now.state).perms id }
+    {
+        self.shares.perms(id)
     }
 
     /// What the share of this number lets its guest do.
@@ -111,5 +119,13 @@ impl Tables {
         ensures { IfOk result (λ told. told ≡ map (λ i. record { id = i; perms = effective_with (view_in self.now.state) id perms i }) (told_by_limit (view_in self.now.state) id perms)) }
     {
         self.shares.changed(id, perms)
+    }
+}
+
+impl SharesByNumber for Tables {
+    ghost shares = { λ t. (view_in t.state).shares };
+
+    fn share(&self, id: u32) -> Option<&Share> {
+        self.shares.share(id)
     }
 }

@@ -3,7 +3,6 @@ ghost use Rattle.std.specs.List.{list_any};
 ghost use Rattle.ocm_rules.specs.Files.{copies, is_too_long};
 ghost use Rattle.ocm_tree.specs.Carries.{carried, makes_long_path};
 
-use crate::moving::moved_path;
 use crate::places::is_at_or_above;
 use crate::plans::PlannedNode;
 use ocm_base::NoMemory;
@@ -71,11 +70,11 @@ impl PlannedCarry {
 }
 
 /// A copy of a node, as it stands once carried.
-fn plan_copy(alloc: Global, from: &Place, to: &Place, node: &Node) -> Result<PlannedNode, NoMemory>
+fn plan_copy(from: &Place, to: &Place, node: &Node) -> Result<PlannedNode, NoMemory>
     requires within { is_too_long (carried from.now to.now node.now) ≡ false }
     ensures { IfOk result (λ planned. planned ≡ carried from.now to.now node.now) }
 {
-    let path = moved_path(alloc, &node.place.path, &from.path, &to.path)?;
+    let path = node.place.path.moved(&from.path, &to.path)?;
     let parent = Place {
         user: to.user,
         path: path.parent()?,
@@ -100,7 +99,7 @@ fn plan_copies(
     let mut planned = Vec::new(alloc);
     for node in nodes {
         if is_at_or_above(from, &node.place) {
-            planned.push(plan_copy(alloc, from, to, node)?)?;
+            planned.push(plan_copy(from, to, node)?)?;
         }
     }
     Ok(planned)

@@ -6,7 +6,6 @@ ghost use Rattle.ocm_rules.specs.Answers.{item_size};
 ghost use Rattle.ocm_tree.specs.declared.listing.Child.{Child};
 ghost use Rattle.ocm_tree.specs.Listing.{child_of, in_order_of_names};
 
-use crate::moving::moved_path;
 use crate::places::is_parent;
 use ocm_base::{List, NoMemory, Text};
 use ocm_entry::{DavItem, Node, Place, Standing};
@@ -49,7 +48,7 @@ fn child_of(alloc: Global, node: &Node, place: &Place, path: &Path) -> Result<Ch
     ensures { IfOk result (λ child. child ≡ child_of place.now path.now node.now) }
 {
     let name = name_of(alloc, node)?;
-    let path = moved_path(alloc, &node.place.path, &place.path, path)?;
+    let path = node.place.path.moved(&place.path, path)?;
     let size = item_size(&node.standing);
     Ok(Child {
         name,

@@ -1,2 +1,6 @@
-pub mod Steps
-pub mod Runs
+pub mod Worlds
+pub mod Lines
+pub mod Posts
+pub mod Scripts
+pub mod Properly
+pub mod Acting

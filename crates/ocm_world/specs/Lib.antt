@@ -1,4 +1,5 @@
-pub mod Texts
 pub mod Asked
-pub mod Running
+pub mod Servers
+pub mod Deliveries
 pub mod Transcript
+pub mod Running

@@ -1,39 +1,33 @@
-use Rattle.std.specs.Prelude.{◌≡◌, ℕ, List, Bool, Option, Some, None, option_map}
-use Rattle.ocm_base.specs.Outside.{Appends, AppendsPart}
+-- What the functions of this crate say to each other: for which servers their tables stand, and that a line was run. A reader of the transcript needs none of it.
+use Rattle.std.specs.Prelude.{◌≡◌, ℕ, List, [], ◌∷◌, Bool, Option, Some, None}
 use Rattle.ocm_entry.specs.declared.asks.Ask.{Ask}
 use Rattle.ocm_entry.specs.declared.replies.Reply.{Reply}
-use Rattle.ocm_first_rules.specs.State.{Stands}
-use Rattle.ocm_core.specs.Plans.{Tables}
-use Rattle.ocm_script.specs.declared.events.Event.{Event}
-use Rattle.ocm_world.specs.Transcript.{Server, reply_of, ask_to, asked_server, asked_text, next, printed}
+use Rattle.ocm_rules.specs.Numbers.{same_text}
+use Rattle.ocm_tables.specs.Tables.{ServerLists}
+use Rattle.ocm_core.specs.Standing.{IsAfter}
+use Rattle.ocm_world.specs.Servers.{Server, World, asked_at, reply_at}
+use Rattle.ocm_world.specs.Deliveries.{Run}
 
--- What the functions of this crate say to each other: how far a run has come, and for which world the tables stand. A reader of the transcript needs none of it.
+-- the tables of one server stand for it
+pub record IsOf (tables : ServerLists) (server : Server) : Type 0 where
+  pub host : tables.state.host ≡ server.host
+  pub after : IsAfter tables.state server.history
 
--- the server's tables stand for the world
-abbrev pub IsAt : Option Tables → Option Server → Type 0
-IsAt None None = Unit {0}
-IsAt (Some tables) (Some server) = (tables.state.host ≡ server.host) × Stands tables.state server.history
-IsAt None (Some server) = ⊥
-IsAt (Some tables) None = ⊥
+-- whether these are the tables of this host's server
+abbrev pub is_at : List ℕ → ServerLists → Bool
+is_at host tables = same_text tables.state.host host
 
--- the ask of a line, if it is one, was answered so: for some answer to whether memory was wanting, the reply is that of the rules, and the tables stand for the server after it
-abbrev pub Answers : Server → Tables → Option Ask → Option Reply → Type 0
-Answers server tables ask reply =
-    (wanting : Bool) × (reply ≡ option_map (reply_of wanting server) ask) × IsAt (Some tables) (Some (asked_server wanting server ask))
+-- the tables of the servers stand for them, one by one
+abbrev pub AreOf : List ServerLists → World → Type 0
+AreOf [] [] = Unit {0}
+AreOf (tables ∷ more) (server ∷ others) = IsOf tables server × AreOf more others
+AreOf [] (server ∷ others) = ⊥
+AreOf (tables ∷ more) [] = ⊥
 
--- a line was run whole at the server: its text was added, and the tables stand for the server after it
-abbrev pub RunsAt : Server → Tables → ℕ → Event → Option (List ℕ) → Option (List ℕ) → Type 0
-RunsAt server tables number e old new =
-    (wanting : Bool) × Appends old new (asked_text wanting server number (ask_to server e)) × IsAt (Some tables) (Some (asked_server wanting server (ask_to server e)))
+-- an ask at the server of a host was answered so: for some answer to whether memory was wanting, the reply is that of the rules, and the tables stand for the servers after it
+abbrev pub Asks : World → List ServerLists → List ℕ → Ask → Option Reply → Type 0
+Asks world new host ask reply = (wanting : Bool) × (reply ≡ reply_at wanting world host ask) × AreOf new (asked_at wanting world host ask)
 
--- a line was not run whole at the server: a front of its text was added
-abbrev pub StopsAt : Server → ℕ → Event → Option (List ℕ) → Option (List ℕ) → Type 0
-StopsAt server number e old new = (wanting : Bool) × AppendsPart old new (asked_text wanting server number (ask_to server e))
-
--- a line was run whole: for some answer to whether memory was wanting, its text was added, and the tables stand for the world after it
-abbrev pub Runs : Option Server → Option Tables → ℕ → Event → Option (List ℕ) → Option (List ℕ) → Type 0
-Runs world tables number e old new = (wanting : Bool) × Appends old new (printed wanting world number e) × IsAt tables (next wanting world e)
-
--- a line was not run whole: a front of its text was added
-abbrev pub Stops : Option Server → ℕ → Event → Option (List ℕ) → Option (List ℕ) → Type 0
-Stops world number e old new = (wanting : Bool) × AppendsPart old new (printed wanting world number e)
+-- a line was run: for some answers to whether memory was wanting it printed this text, and the tables stand for the servers after it
+abbrev pub Runs : (List Bool → Run) → List ServerLists → List ℕ → Type 0
+Runs line new text = (wanting : List Bool) × (text ≡ (line wanting).text) × AreOf new (line wanting).world

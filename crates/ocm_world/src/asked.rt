@@ -1,116 +1,239 @@
-ghost use Rattle.std.specs.Prelude.{◌≡◌, IfOk, OnErr, IsSome, option_copied};
+//! What the lines of a script ask of the servers that they name.
+ghost use Rattle.std.specs.Prelude.{◌≡◌, ◌++◌, [], Some, IfOk, IsTrue};
+ghost use Rattle.ocm_entry.specs.declared.asks.Ask.TheVariants as asks;
+ghost use Rattle.ocm_entry.specs.declared.asks.Method.TheVariants as methods;
+ghost use Rattle.ocm_entry.specs.Proper.{is_proper};
+ghost use Rattle.ocm_records.specs.Fields.{name_of};
+ghost use Rattle.ocm_script.specs.Events.{bytes_of};
 ghost use Rattle.ocm_world.specs.Asked as asked;
 
 use ocm_base::{Bytes, NoMemory};
 use ocm_entry::{Ask, Cmd, Method};
-use ocm_script::Event;
-use ocm_types::Host;
+use ocm_path::Path;
+use ocm_records::{Field, RecordFault};
+use ocm_script::{Body, Event};
+use ocm_types::{Fresh, Letter, Name, Notice, Offer, Secret};
 use std::alloc::Global;
 
-/// The ask of a script's line, if it is one. Only a line that is one may want memory.
+/// The ask of a script's line, if it is one, to the server that the line names.
 pub fn ask_of(alloc: Global, event: &Event) -> Result<Option<Ask>, NoMemory>
-    ensures ok { IfOk result (λ ask. ask ≡ asked.ask_of event.now) }
-    ensures err { OnErr result (IsSome (asked.ask_of event.now)) }
+    ensures { IfOk result (λ ask. ask ≡ asked.ask_of event.now) }
 {
     match event {
-        Event::Quiet | Event::Node { host: _ } => Ok(None),
+        Event::Quiet
+        | Event::Node { host: _ }
+        | Event::Deliver {
+            host: _,
+            number: _,
+            fresh: _,
+            lost: _,
+        }
+        | Event::Pump { host: _, fresh: _ } => Ok(None),
         Event::User {
             host: _,
             name,
             fresh,
-        } => Ok(Some(Ask::AddUser {
-            name: name.copy()?,
-            fresh: *fresh,
-        })),
+        } => user_ask(name, *fresh),
+        Event::Local { host: _, key, cmd } => local_ask(key, cmd),
+        Event::Dav {
+            host: _,
+            secret,
+            method,
+            path,
+        } => dav_ask(alloc, secret, *method, path),
         Event::Put {
             host: _,
             secret,
             path,
             body,
-        } => Ok(Some(Ask::Dav {
-            secret: secret.copy()?,
-            method: Method::Put,
-            path: path.copy()?,
-            body: body.bytes(alloc)?,
-        })),
-        Event::Get {
+        } => put_ask(alloc, secret, path, body),
+        Event::Carry {
             host: _,
             secret,
-            path,
-        } => Ok(Some(Ask::Dav {
-            secret: secret.copy()?,
-            method: Method::Get,
-            path: path.copy()?,
-            body: Bytes::new(alloc),
+            from,
+            to,
+            moving,
+            overwrite,
+        } => carry_ask(secret, from, to, *moving, *overwrite),
+        Event::Clock { host: _, clock } => Ok(Some(Ask::Tick {
+            clock: *clock as u64,
         })),
-        Event::Share {
+        Event::Offer { host: _, offer } => offer_ask(offer),
+        Event::Notice {
             host: _,
-            key,
-            path,
-            with,
-            perms,
             fresh,
-        } => Ok(Some(Ask::Local {
-            key: key.copy()?,
-            cmd: Cmd::Share {
-                path: path.copy()?,
-                with: with.copy()?,
-                perms: *perms,
-                fresh: *fresh,
-            },
-        })),
-        Event::Unshare { host: _, key, id } => Ok(Some(Ask::Local {
-            key: key.copy()?,
-            cmd: Cmd::Unshare { id: *id },
-        })),
+            notice,
+        } => notice_ask(*fresh, notice),
     }
 }
 
-/// The host of the server that a script's line names.
-pub fn host_of(event: &Event) -> Option<&Host>
-    ensures { option_copied result ≡ asked.host_of event.now }
+fn user_ask(name: &Name, fresh: Fresh) -> Result<Option<Ask>, NoMemory>
+    ensures { IfOk result (λ ask. ask ≡ Some (asks.AddUser name.now fresh)) }
 {
-    match event {
-        Event::Quiet => None,
-        Event::Node { host } => Some(host),
-        Event::User {
-            host,
-            name: _,
-            fresh: _,
-        } => Some(host),
-        Event::Put {
-            host,
-            secret: _,
-            path: _,
-            body: _,
-        } => Some(host),
-        Event::Get {
-            host,
-            secret: _,
-            path: _,
-        } => Some(host),
-        Event::Share {
-            host,
-            key: _,
-            path: _,
-            with: _,
-            perms: _,
-            fresh: _,
-        } => Some(host),
-        Event::Unshare {
-            host,
-            key: _,
-            id: _,
-        } => Some(host),
+    let name = name.copy()?;
+    Ok(Some(Ask::AddUser { name, fresh }))
+}
+
+fn local_ask(key: &Secret, cmd: &Cmd) -> Result<Option<Ask>, NoMemory>
+    ensures { IfOk result (λ ask. ask ≡ Some (asks.Local key.now cmd.now)) }
+{
+    let key = key.copy()?;
+    let cmd = cmd.copy()?;
+    Ok(Some(Ask::Local { key, cmd }))
+}
+
+fn dav_ask(
+    alloc: Global,
+    secret: &Secret,
+    method: Method,
+    path: &Path,
+) -> Result<Option<Ask>, NoMemory>
+    ensures { IfOk result (λ ask. ask ≡ Some (asks.Dav secret.now method path.now [])) }
+{
+    let secret = secret.copy()?;
+    let path = path.copy()?;
+    let body = Bytes::new(alloc);
+    Ok(Some(Ask::Dav {
+        secret,
+        method,
+        path,
+        body,
+    }))
+}
+
+fn put_ask(
+    alloc: Global,
+    secret: &Secret,
+    path: &Path,
+    body: &Body,
+) -> Result<Option<Ask>, NoMemory>
+    ensures { IfOk result (λ ask. ask ≡ Some (asks.Dav secret.now methods.Put path.now (bytes_of body.now))) }
+{
+    let secret = secret.copy()?;
+    let path = path.copy()?;
+    let body = body.bytes(alloc)?;
+    Ok(Some(Ask::Dav {
+        secret,
+        method: Method::Put,
+        path,
+        body,
+    }))
+}
+
+fn carry_ask(
+    secret: &Secret,
+    from: &Path,
+    to: &Path,
+    moving: bool,
+    overwrite: bool,
+) -> Result<Option<Ask>, NoMemory>
+    ensures { IfOk result (λ ask. ask ≡ Some (asks.Carry secret.now from.now to.now moving overwrite)) }
+{
+    let secret = secret.copy()?;
+    let from = from.copy()?;
+    let to = to.copy()?;
+    Ok(Some(Ask::Carry {
+        secret,
+        from,
+        to,
+        moving,
+        overwrite,
+    }))
+}
+
+fn offer_ask(offer: &Result<Offer, RecordFault>) -> Result<Option<Ask>, NoMemory>
+    ensures { IfOk result (λ ask. ask ≡ asked.offer_ask offer.now) }
+{
+    match offer {
+        Ok(offer) => {
+            let offer = offer.copy()?;
+            Ok(Some(Ask::Offer { offer }))
+        }
+        Err(_) => Ok(None),
     }
 }
 
-/// The host of the server that a script's line makes, if it makes one.
-pub fn node_of(event: &Event) -> Option<&Host>
-    ensures { option_copied result ≡ asked.node_of event.now }
+fn notice_ask(fresh: Fresh, notice: &Result<Notice, RecordFault>) -> Result<Option<Ask>, NoMemory>
+    ensures { IfOk result (λ ask. ask ≡ asked.notice_ask fresh notice.now) }
+{
+    match notice {
+        Ok(notice) => {
+            let notice = notice.copy()?;
+            Ok(Some(Ask::Notice { notice, fresh }))
+        }
+        Err(_) => Ok(None),
+    }
+}
+
+/// Whether the bytes of a file that is got are shown: a HEAD shows only how many there are.
+pub fn shows_digits(event: &Event) -> bool
+    ensures { result ≡ asked.shows_digits event.now }
+{
+    !matches!(
+        event,
+        Event::Dav {
+            method: Method::Head,
+            ..
+        }
+    )
+}
+
+/// What is wrong with the record of a line, if it has one.
+pub fn fault_of(event: &Event) -> Option<RecordFault>
+    ensures { result ≡ asked.fault_of event.now }
 {
     match event {
-        Event::Node { host } => Some(host),
+        Event::Offer { host: _, offer } => match offer {
+            Ok(_) => None,
+            Err(fault) => Some(*fault),
+        },
+        Event::Notice {
+            host: _,
+            fresh: _,
+            notice,
+        } => match notice {
+            Ok(_) => None,
+            Err(fault) => Some(*fault),
+        },
         _ => None,
+    }
+}
+
+/// How a transcript shows what is wrong with a record.
+pub fn fault_text(alloc: Global, fault: RecordFault) -> Result<Bytes, NoMemory>
+    ensures { IfOk result (λ text. text ≡ asked.fault_text fault) }
+{
+    match fault {
+        RecordFault::NotJson => Bytes::of(alloc, b"400 not json"),
+        RecordFault::NotObject => Bytes::of(alloc, b"400 not an object"),
+        RecordFault::Missing(field) => named(alloc, b"400 missing ", field),
+        RecordFault::Kind(field) => named(alloc, b"400 wrong kind ", field),
+        RecordFault::Value(field) => named(alloc, b"400 bad value ", field),
+        RecordFault::Unsupported(field) => named(alloc, b"501 not supported ", field),
+        RecordFault::NoMemory => Bytes::of(alloc, b"500 no memory"),
+    }
+}
+
+fn named(alloc: Global, front: &[u8], field: Field) -> Result<Bytes, NoMemory>
+    ensures { IfOk result (λ text. text ≡ front.now ++ name_of field) }
+{
+    let mut text = Bytes::of(alloc, front)?;
+    text.add(field.name().as_bytes())?;
+    Ok(text)
+}
+
+/// The ask that a letter is at the server that it is for, with these drawn bytes.
+pub fn letter_ask(letter: &Letter, fresh: Fresh) -> Result<Ask, NoMemory>
+    ensures ask { IfOk result (λ ask. ask ≡ asked.letter_ask letter.now fresh) }
+    ensures proper { IfOk result (λ ask. IsTrue (is_proper ask)) }
+{
+    match letter {
+        Letter::Offer(offer) => Ok(Ask::Offer {
+            offer: offer.copy()?,
+        }),
+        Letter::Notice(notice) => Ok(Ask::Notice {
+            notice: notice.copy()?,
+            fresh,
+        }),
     }
 }

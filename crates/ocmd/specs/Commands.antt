@@ -25,7 +25,7 @@ bad_line number = codes "bad line " ++ decimal number ++ 10 ∷ []
 
 -- A script gives the status 0 and its transcript, and bytes with a line that is no event give the status 2 and the number of the first such line.
 abbrev pub Replays : List ℕ → End → List ℕ → Type 0
-Replays bytes whole.Done text = (events : List Event) × (script_of bytes ≡ Ok events) × Transcript None 1 events text
+Replays bytes whole.Done text = (events : List Event) × (script_of bytes ≡ Ok events) × Transcript [] 1 events text
 Replays bytes whole.Record text = ⊥
 Replays bytes whole.NotJournal text = ⊥
 Replays bytes whole.Script text = (number : ℕ) × (script_of bytes ≡ Err (ends.Line number)) × (text ≡ bad_line number)

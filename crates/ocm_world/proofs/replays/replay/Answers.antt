@@ -1,4 +1,4 @@
-use Rattle.ocm_world.proofs.Steps.{proper-lines}
+use Rattle.ocm_world.proofs.Properly.{proper-lines}
 use Rattle.ocm_world.proofs.replays.replay.Goals as goal
 
 pub run_events-requires-clause-proper : goal.run_events-requires-clause-proper

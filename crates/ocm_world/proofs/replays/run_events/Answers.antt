@@ -1,20 +1,33 @@
-use Rattle.std.proofs.Common.{arith, rules}
+use Rattle.std.proofs.Common.{◌≡◌, ◌++◌, ◌∷◌, ℕ, List, [], true, false, Some, None, Option, length, get_or, set, refl, sym, ap, ◌∙◌, subst, drop, arith, rules, IfOk}
 use Rattle.std.proofs.lemmas.List.{drop_all}
 use Rattle.std.proofs.lemmas.Result.{err_from_is_err_and}
-use Rattle.ocm_world.proofs.Runs.{GoesOn-more, WritesPart-from_stop, Writes-from_end, GoesOn-at}
+use Rattle.ocm_world.proofs.Scripts.{GoesOn-at, GoesOn-more, GoesOn-start, Writes-from_end, WritesPart-cut, WritesPart-stop}
 use Rattle.ocm_world.proofs.replays.run_events.Goals as goal
+
+pub loop-event-init : goal.loop-event-init
+loop-event-init g c = record { line = refl; goes_on = GoesOn-start _ _ _ c.new-servers.ensures; never_falls = search rules }
 
 pub loop-event-preserved : goal.loop-event-preserved
 loop-event-preserved g c = record {
   line = search rules;
-  goes_on = GoesOn-more _ _ _ _ _ _ _ _ _ (GoesOn-at _ _ _ _ c.loop-event.event-index c.event-item.result _ _ (omega arith) c.event-item.is c.loop-event.invariant.goes_on) c.in_ok-run_event.ensures.ok;
+  goes_on = GoesOn-more _ _ _ _ _ _ _ _ _ _
+      (GoesOn-at _ _ _ _ c.loop-event.event-index c.event-item.result _ _ (omega arith) c.event-item.is c.loop-event.invariant.goes_on)
+      c.in_ok-text.ensures (rw c.as_slice.ensures at c.in_ok-write_all.ensures.ok);
   never_falls = search rules;
 }
 
-pub returns-in_err-run_event-clause-err : goal.returns-in_err-run_event-clause-err
-returns-in_err-run_event-clause-err g c =
+pub returns-in_err-text-clause-err : goal.returns-in_err-text-clause-err
+returns-in_err-text-clause-err g c =
     let p = err_from_is_err_and c.from_residual.result c.from_residual.ensures.1 in
-    rw p.1 (WritesPart-from_stop _ _ _ _ _ _ _ _ (GoesOn-at _ _ _ _ c.loop-event.event-index c.event-item.result _ _ (omega arith) c.event-item.is c.loop-event.invariant.goes_on) c.in_err-run_event.ensures.err)
+    rw p.1 (WritesPart-stop _ _ _ _ _ _ c.loop-event.invariant.goes_on)
+
+pub returns-in_err-write_all-clause-err : goal.returns-in_err-write_all-clause-err
+returns-in_err-write_all-clause-err g c =
+    let p = err_from_is_err_and c.from_residual-in_err-write_all.result c.from_residual-in_err-write_all.ensures.1 in
+    rw p.1
+    (WritesPart-cut _ _ _ _ _ _ _ _ _ _
+    (GoesOn-at _ _ _ _ c.loop-event.event-index c.event-item.result _ _ (omega arith) c.event-item.is c.loop-event.invariant.goes_on)
+    c.in_ok-text.ensures (rw c.as_slice.ensures at c.in_err-write_all.ensures.err))
 
 pub returns-clause-ok : goal.returns-clause-ok
 returns-clause-ok g c = Writes-from_end _ _ _ _ _ _ (drop_all c.loop-event.event-index c.args.events.now (omega arith)) c.loop-event.invariant.goes_on

@@ -1,5 +1,5 @@
 use Rattle.std.proofs.Common.{◌≡◌, ◌+◌, ◌≤◌, drop}
-use Rattle.ocm_world.proofs.Runs.{GoesOn}
+use Rattle.ocm_world.proofs.Scripts.{GoesOn}
 use Rattle.ocm_world.proofs.replays.run_events.Given as goal
 
 -- what is printed so far leads on
@@ -8,6 +8,6 @@ invariant-loop-event g l =
     let sink = g.K.Sink in
     record {
       line : l.number ≡ l.event-index + 1;
-      goes_on : GoesOn l.events l.server l.number (drop l.event-index l.events) (sink.taken l.fn.sink) (sink.taken l.sink);
+      goes_on : GoesOn l.events l.servers l.number (drop l.event-index l.events) (sink.taken l.fn.sink) (sink.taken l.sink);
       never_falls : sink.faults l.fn.sink ≤ sink.faults l.sink;
     }

@@ -1,10 +1,9 @@
-use Rattle.std.proofs.Common.{sym, ap, ◌∙◌}
-use Rattle.ocm_first_rules.specs.History.{kept}
-use Rattle.ocm_first_rules.specs.State.{reply_in}
-use Rattle.ocm_first_rules.proofs.Readings.{answer_kept-lists}
+use Rattle.std.proofs.Common.{◌∙◌}
+use Rattle.ocm_core.proofs.Standing.{changes-after, reply-after}
 use Rattle.ocm_core.proofs.server.Core.answer.Goals as goal
 
-pub returns-clause-answer : goal.returns-clause-answer
-returns-clause-answer c = λ g stands.
-    let st = c.args.self.now.state in
-    c.in_ok-planned.ensures.reply ∙ (ap (λ lists. reply_in lists c.args.ask.now) stands ∙ sym (answer_kept-lists st.host (kept st.host g) c.args.ask.now))
+pub returns-clause-reply : goal.returns-clause-reply
+returns-clause-reply c = rw (← c.self.view_is) (λ g h. c.in_ok-planned.ensures.reply ∙ reply-after c.self.inside.tables.state g c.args.ask.now h)
+
+pub returns-clause-changes : goal.returns-clause-changes
+returns-clause-changes c = rw (← c.self.view_is) (λ g h. c.in_ok-planned.ensures.kept ∙ changes-after c.self.inside.tables.state g c.args.ask.now c.in_ok-planned.planned.reply h)

@@ -1,0 +1,3 @@
+pub mod LocalReplies
+pub mod Makes
+pub mod UserLines

@@ -1,0 +1,80 @@
+//! What plans read of the tables, beyond what these offer.
+ghost use Rattle.std.specs.Prelude.{◌≡◌, IfOk, filter, nat_lt, option_and_then, option_copied};
+ghost use Rattle.ocm_rules.specs.Numbers.{at_number};
+ghost use Rattle.ocm_rules.specs.Shares.{named};
+ghost use Rattle.ocm_rules.specs.Answers.{is_child_of, parent_row};
+ghost use Rattle.ocm_rules.specs.Messages.{without};
+ghost use Rattle.ocm_rules.specs.State.{view_in};
+
+use ocm_base::{List, NoMemory};
+use ocm_entry::{Share, User};
+use ocm_tables::Tables;
+use ocm_types::{ProviderId, Secret};
+
+/// Whether the share that an owner's mark names has a parent with this secret.
+pub fn is_child_of(tables: &Tables, id: &ProviderId, secret: &Secret) -> bool
+    ensures { result ≡ is_child_of (view_in tables.now.state) id.now secret.now }
+{
+    match parent_of_named(tables, id) {
+        Some(parent) => parent.secret == *secret,
+        None => false,
+    }
+}
+
+/// The parent of the share that an owner's mark names.
+fn parent_of_named<'a>(tables: &'a Tables, id: &ProviderId) -> Option<&'a Share>
+    ensures { option_copied result ≡ option_and_then (parent_row (view_in tables.now.state)) (option_and_then (at_number (view_in tables.now.state).shares) (named id.now)) }
+{
+    let number = tables.named_share(id)?;
+    let share = tables.share(number)?;
+    let parent = share.parent?;
+    tables.share(parent)
+}
+
+/// The user whose share this is. Each share has one; were there none, this would be want of memory.
+pub fn owner_of<'a>(tables: &'a Tables, share: &Share) -> Result<&'a User, NoMemory>
+    ensures { IfOk result (λ user. at_number tables.now.state.users share.now.owner ≡ Some user.now) }
+{
+    match tables.user(share.owner) {
+        Some(user) => Ok(user),
+        None => Err(NoMemory),
+    }
+}
+
+/// These numbers in the same order, but for this one.
+pub fn without(number: u32, ids: &List<u32>) -> Result<List<u32>, NoMemory>
+    ensures { IfOk result (λ others. others ≡ without number ids.now) }
+{
+    let others = ids
+        .as_slice()
+        .iter()
+        .copied()
+        .filter(|id| number != *id)
+        .collect(ids.allocator())?;
+    Ok(List::from_vec(others))
+}
+
+/// The serial of the last change that the guest of the received offer of this number was told of: 0
+/// before the first.
+fn told_serial(tables: &Tables, number: u32) -> u32
+    ensures { result ≡ ((view_in tables.now.state).told number).serial }
+{
+    match tables.record(number) {
+        Some(_) => tables.told(number).serial,
+        None => 0,
+    }
+}
+
+/// Those of these received offers whose guest was told of no change as late as the one of this serial,
+/// in the same order.
+pub fn behind(tables: &Tables, numbers: &List<u32>, serial: u32) -> Result<List<u32>, NoMemory>
+    ensures { IfOk result (λ behind. behind ≡ filter (λ n. nat_lt ((view_in tables.now.state).told n).serial serial) numbers.now) }
+{
+    let behind = numbers
+        .as_slice()
+        .iter()
+        .copied()
+        .filter(|number| told_serial(tables, *number) < serial)
+        .collect(tables.allocator())?;
+    Ok(List::from_vec(behind))
+}

@@ -1,0 +1,50 @@
+//! The lines that make a server, give it a user, and tell it the time.
+
+ghost use Rattle.std.specs.Prelude.{IfOk, IsTrue, option_copied};
+ghost use Rattle.ocm_script.specs.Events.{has_short_paths};
+ghost use Rattle.ocm_script.specs.Forms as forms;
+ghost use Rattle.ocm_script.specs.Gives.{Gives};
+
+use crate::events::Event;
+use crate::faults::LineFault;
+use crate::next_words::{next_host, next_name, next_new_host, next_number};
+use crate::words::{ended, fresh_word, word};
+use ocm_types::Host;
+use std::alloc::Global;
+
+/// `node HOST`: a server, whose host is not named before.
+#[tactic(auto, unfolding(crate::specs::Forms::node_line))]
+pub fn node_line(alloc: Global, named: &[Host], rest: Option<&[u8]>) -> Result<Event, LineFault>
+    ensures exact { Gives (λ x. x) result (forms.node_line named.now (option_copied rest.entry)) }
+    ensures short { IfOk result (λ event. IsTrue (has_short_paths event)) }
+{
+    let (host, rest) = next_new_host(alloc, named, rest)?;
+    ended(rest)?;
+    Ok(Event::Node { host })
+}
+
+/// `user HOST NAME FRESH`: a user, with what its key is drawn from.
+#[tactic(auto, unfolding(crate::specs::Forms::user_line, crate::specs::Words::next))]
+pub fn user_line(alloc: Global, named: &[Host], rest: Option<&[u8]>) -> Result<Event, LineFault>
+    ensures exact { Gives (λ x. x) result (forms.user_line named.now (option_copied rest.entry)) }
+    ensures short { IfOk result (λ event. IsTrue (has_short_paths event)) }
+{
+    let (host, rest) = next_host(named, rest)?;
+    let (name, rest) = next_name(alloc, rest)?;
+    let (fresh, rest) = word(rest)?;
+    let fresh = fresh_word(fresh)?;
+    ended(rest)?;
+    Ok(Event::User { host, name, fresh })
+}
+
+/// `clock HOST SECONDS`: the time is told to the server.
+#[tactic(auto, unfolding(crate::specs::Forms::clock_line))]
+pub fn clock_line(named: &[Host], rest: Option<&[u8]>) -> Result<Event, LineFault>
+    ensures exact { Gives (λ x. x) result (forms.clock_line named.now (option_copied rest.entry)) }
+    ensures short { IfOk result (λ event. IsTrue (has_short_paths event)) }
+{
+    let (host, rest) = next_host(named, rest)?;
+    let (clock, rest) = next_number(rest)?;
+    ended(rest)?;
+    Ok(Event::Clock { host, clock })
+}

@@ -1,0 +1,19 @@
+use Rattle.std.proofs.Common.{◌≡◌, ◌+◌, ◌++◌, ◌∷◌, ℕ, List, [], true, false, Some, None, Option, length, get_or, set, refl, sym, ap, ◌∙◌, subst, drop, arith, rules, IfOk}
+use Rattle.ocm_world.proofs.Posts.{Runs-all, Runs-given, Runs-unreachable, GoesOn-at, GoesOn-more, GoesOn-start}
+use Rattle.std.proofs.lemmas.List.{drop_all}
+use Rattle.ocm_world.proofs.deliveries.all_delivered.Goals as goal
+
+pub loop-message-init : goal.loop-message-init
+loop-message-init c = record { place = refl; goes_on = rw c.new-text.ensures (GoesOn-start c.args.messages.now c.args.servers.now c.args.line c.args.sender.now c.args.fresh) }
+
+pub loop-message-preserved : goal.loop-message-preserved
+loop-message-preserved c = record {
+  place = ap (λ k. k + 1) c.loop-message.invariant.place;
+  goes_on = rw (c.in_ok-add.ensures.ok, c.as_slice.ensures)
+      (GoesOn-more _ _ _ _ _ _ _ _ _ _ _ _
+      (GoesOn-at _ _ _ _ _ _ _ _ c.loop-message.message-index c.message-item.result _ (omega arith) c.message-item.is c.loop-message.invariant.goes_on)
+      (rw (← c.plus.ensures.value) c.in_ok-more.ensures));
+}
+
+pub returns : goal.returns
+returns c = Runs-all _ _ _ _ _ _ _ _ _ (drop_all c.loop-message.message-index c.args.messages.now (omega arith)) c.loop-message.invariant.goes_on

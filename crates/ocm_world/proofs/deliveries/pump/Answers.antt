@@ -1,0 +1,17 @@
+use Rattle.std.proofs.Common.{◌≡◌, ◌++◌, ◌∷◌, ℕ, List, [], true, false, Some, None, Option, length, get_or, set, refl, sym, ap, ◌∙◌, subst, drop, arith, rules}
+use Rattle.ocm_world.proofs.Lines.{Runs-answered, Runs-on, Runs-same, Runs-still, Runs-unanswered, if_ok}
+use Rattle.ocm_types.specs.declared.letters.Numbered.{Numbered}
+use Rattle.std.specs.Option.{option_map_or}
+use Rattle.ocm_world.specs.Deliveries.{Run, all_delivered, deliver, delivered, nothing, pump, pumped}
+use Rattle.ocm_world.specs.Servers.{asked_at}
+use Rattle.ocm_entry.specs.declared.replies.Reply.{Reply}
+use Rattle.ocm_world.proofs.Posts.{Runs-pumped, Runs-unpumped}
+use Rattle.ocm_world.proofs.deliveries.pump.Goals as goal
+
+pub returns-in-Some : goal.returns-in-Some
+returns-in-Some c = if_ok c.pumped_from.result
+    (λ text h world are. Runs-pumped c.pumped_from.new.servers c.due_of.new.servers world c.args.line c.args.sender.now c.args.fresh c.in-Some.reply text (c.in-Some.ensures world are) h)
+    c.pumped_from.ensures
+
+pub returns-in-None : goal.returns-in-None
+returns-in-None c = λ world are. rw c.new.ensures (Runs-unpumped c.due_of.new.servers world c.args.line c.args.sender.now c.args.fresh (c.in-None.ensures world are))

@@ -1,0 +1,27 @@
+use Rattle.std.proofs.Common.{◌≡◌, ◌++◌, ◌∷◌, ℕ, List, [], true, false, Some, None, Option, length, get_or, set, refl, sym, ap, ◌∙◌, subst, drop, arith, rules, IfOk}
+use Rattle.ocm_world.proofs.Lines.{Runs-answered, Runs-on, Runs-same, Runs-still, Runs-unanswered, if_ok}
+use Rattle.ocm_types.specs.declared.letters.Numbered.{Numbered}
+use Rattle.std.specs.Option.{option_map_or}
+use Rattle.ocm_world.specs.Deliveries.{Run, all_delivered, deliver, delivered, nothing, pump, pumped}
+use Rattle.ocm_world.specs.Servers.{asked_at}
+use Rattle.ocm_world.specs.Running.{Runs}
+use Rattle.ocm_world.proofs.Posts.{none_by, pumped-none, pumped-other, pumped-some, some_not}
+use Rattle.ocm_world.proofs.deliveries.pumped.Goals as goal
+
+pub returns-in_default : goal.returns-in_default
+returns-in_default c = if_ok c.reply_lines.result
+    (λ text e world are. rw e (Runs-same _ _ c.args.servers.now _ (λ w. pumped-other w world c.args.line c.args.sender.now c.args.fresh c.args.reply.now c.in_default.not-Due) ([], refl, are)))
+    c.reply_lines.ensures
+
+pub returns-then-is_empty : goal.returns-then-is_empty
+returns-then-is_empty c = if_ok c.line_text.result
+    (λ text e world are. rw e (Runs-same _ (λ w. nothing world c.args.line) c.args.servers.now _
+    (λ w. pumped-none w world c.args.line c.args.sender.now c.args.fresh c.args.reply.now c.in-Due.messages c.in-Due.is (none_by c.in-Due.messages c.if-is_empty.ensures)) ([], refl, are)))
+    c.line_text.ensures
+
+pub returns : goal.returns
+returns c = if_ok c.all_delivered.result
+    (λ text h world are. Runs-same _ (λ w. all_delivered w world c.args.line c.args.sender.now c.args.fresh 0 c.in-Due.messages) c.all_delivered.new.servers text
+    (λ w. pumped-some w world c.args.line c.args.sender.now c.args.fresh c.args.reply.now c.in-Due.messages c.in-Due.is (some_not c.in-Due.messages c.if-is_empty.ensures))
+    (subst (λ (messages : List Numbered). Runs (λ w. all_delivered w world c.args.line c.args.sender.now c.args.fresh 0 messages) c.all_delivered.new.servers text) c.as_slice.ensures (h world are)))
+    c.all_delivered.ensures

@@ -1,0 +1,6 @@
+use Rattle.std.proofs.Common.{◌≡◌, ◌++◌, ◌∷◌, ℕ, List, [], true, false, Some, None, Option, length, get_or, set, refl, sym, ap, ◌∙◌, subst, drop, arith, rules}
+use Rattle.ocm_world.proofs.Lines.{Runs-answered, Runs-on, Runs-same, Runs-still, Runs-unanswered, if_ok}
+use Rattle.ocm_world.proofs.runs.name.Goals as goal
+
+pub returns : goal.returns
+returns c = if_ok c.line_text.result (λ text e world are. rw e (Runs-still c.add.new.self _ _ (c.in_ok-add.ensures world are))) c.line_text.ensures

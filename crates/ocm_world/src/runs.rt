@@ -1,0 +1,106 @@
+//! The lines of a script, each run at the servers.
+ghost use Rattle.std.specs.Prelude.{◌≡◌, IfOk, IsTrue, Some};
+ghost use Rattle.ocm_entry.specs.Proper.{is_proper};
+ghost use Rattle.ocm_script.specs.Events.{host_of};
+ghost use Rattle.ocm_world.specs.Asked.{asks_properly};
+ghost use Rattle.ocm_world.specs.Asked as specified;
+ghost use Rattle.ocm_world.specs.Deliveries.{next_wanting};
+ghost use Rattle.ocm_world.specs.Servers.{World};
+ghost use Rattle.ocm_world.specs.Transcript as transcript;
+ghost use Rattle.ocm_world.specs.Running.{AreOf, Runs};
+
+use crate::asked::{ask_of, fault_of, fault_text, shows_digits};
+use crate::deliveries::{deliver, pump};
+use crate::servers::Servers;
+use ocm_base::{Bytes, NoMemory};
+use ocm_entry::Ask;
+use ocm_script::Event;
+use ocm_texts::{line_text, reply_lines};
+use ocm_types::Host;
+use std::alloc::Global;
+
+/// Runs the line of this number, and gives what it prints.
+pub fn run(
+    alloc: Global,
+    servers: &mut Servers,
+    line: u32,
+    event: &Event,
+) -> Result<Bytes, NoMemory>
+    requires { IsTrue (asks_properly event.now) }
+    ensures { IfOk result (λ text. (world : World) → AreOf servers.old world → Runs (λ wanting. transcript.run wanting world line event.now) servers.new text) }
+{
+    match event {
+        Event::Node { host } => name(alloc, servers, line, host),
+        Event::Deliver {
+            host,
+            number,
+            fresh,
+            lost,
+        } => deliver(alloc, servers, line, host, *number, *fresh, *lost),
+        Event::Pump { host, fresh } => pump(alloc, servers, line, host, *fresh),
+        _ => run_plain(alloc, servers, line, event),
+    }
+}
+
+/// A new server.
+fn name(alloc: Global, servers: &mut Servers, line: u32, host: &Host) -> Result<Bytes, NoMemory>
+    ensures { IfOk result (λ text. (world : World) → AreOf servers.old world → Runs (λ wanting. transcript.named world line host.now) servers.new text) }
+{
+    servers.add(host)?;
+    line_text(alloc, line, b"node")
+}
+
+/// A line that asks something of its server, or whose record is faulty, or that is quiet.
+fn run_plain(
+    alloc: Global,
+    servers: &mut Servers,
+    line: u32,
+    event: &Event,
+) -> Result<Bytes, NoMemory>
+    requires { IsTrue (asks_properly event.now) }
+    ensures { IfOk result (λ text. (world : World) → AreOf servers.old world
+        → Runs (λ wanting. transcript.plain (next_wanting wanting) world line event.now (host_of event.now) (specified.ask_of event.now)) servers.new text) }
+{
+    let Some(host) = event.host() else {
+        return run_faulty(alloc, line, event);
+    };
+    match ask_of(alloc, event)? {
+        Some(ask) => {
+            let text = run_ask(alloc, servers, line, shows_digits(event), host, &ask);
+            drop(ask);
+            text
+        }
+        None => run_faulty(alloc, line, event),
+    }
+}
+
+/// A line that asks nothing: its record is faulty, or it is quiet.
+fn run_faulty(alloc: Global, line: u32, event: &Event) -> Result<Bytes, NoMemory>
+    ensures { IfOk result (λ text. text ≡ transcript.faulty_text line event.now) }
+{
+    match fault_of(event) {
+        Some(fault) => {
+            let text = fault_text(alloc, fault)?;
+            line_text(alloc, line, text.as_slice())
+        }
+        None => Ok(Bytes::new(alloc)),
+    }
+}
+
+/// An ask at the server of this host.
+fn run_ask(
+    alloc: Global,
+    servers: &mut Servers,
+    line: u32,
+    digits: bool,
+    host: &Host,
+    ask: &Ask,
+) -> Result<Bytes, NoMemory>
+    requires { IsTrue (is_proper ask.now) }
+    ensures { IfOk result (λ text. (world : World) → AreOf servers.old world → Runs (λ wanting. transcript.asked (next_wanting wanting) world line digits host.now ask.now) servers.new text) }
+{
+    match servers.ask(host, ask) {
+        Some(reply) => reply_lines(alloc, line, digits, &reply),
+        None => Ok(Bytes::new(alloc)),
+    }
+}
