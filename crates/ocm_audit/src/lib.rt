@@ -8,8 +8,6 @@ mod laws;
 mod lines;
 mod stamps;
 mod testing;
-#[cfg(test)]
-mod tests;
 mod writing;
 
 pub use audits::audit;

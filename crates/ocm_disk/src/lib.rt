@@ -9,8 +9,6 @@ mod marks;
 mod memory;
 mod overwrite;
 mod shelf;
-#[cfg(test)]
-mod tests;
 mod trace;
 
 pub use crashes::Crash;

@@ -10,8 +10,6 @@ mod messages;
 mod reader;
 mod reading;
 mod stages;
-#[cfg(test)]
-mod tests;
 mod windows;
 mod writing;
 

@@ -10,8 +10,6 @@ mod reading;
 mod renewing;
 mod steps;
 mod telling;
-#[cfg(test)]
-mod tests;
 
 pub use appending::AppendFault;
 pub use faults::OpenFault;

@@ -13,8 +13,6 @@ mod notices;
 mod offer_json;
 mod offers;
 mod opening;
-#[cfg(test)]
-mod tests;
 mod values;
 mod writing;
 

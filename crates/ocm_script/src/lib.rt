@@ -50,8 +50,6 @@ mod lines;
 mod next_words;
 mod scripts;
 mod server_lines;
-#[cfg(test)]
-mod tests;
 mod words;
 
 pub use events::{Body, Event};

@@ -12,8 +12,6 @@
 mod board;
 mod pass;
 mod rule;
-#[cfg(test)]
-mod tests;
 mod turnstile;
 mod view;
 

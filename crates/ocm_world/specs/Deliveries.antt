@@ -26,10 +26,13 @@ abbrev pub others_wanting : List Bool → List Bool
 others_wanting [] = []
 others_wanting (wanting ∷ others) = others
 
--- the status of a reply to an offer or a notification (OCM API 1.1)
+-- the status of a reply to an offer or a notification (OCM API 1.1): 201 where it was taken
 abbrev pub delivered_status : Reply → ℕ
 delivered_status (replies.Refused why) = status_of why
+delivered_status replies.JournalFull = 507
 delivered_status replies.NoMemory = 500
+delivered_status (replies.DiskFault count) = 503
+delivered_status (replies.Stopped count) = 503
 delivered_status _ = 201
 
 -- the id that comes back with it: that of a further share

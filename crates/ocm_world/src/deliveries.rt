@@ -247,7 +247,9 @@ fn delivered_status(reply: &Reply) -> u16
 {
     match reply {
         Reply::Refused { why } => why.status(),
+        Reply::JournalFull => 507,
         Reply::NoMemory => 500,
+        Reply::DiskFault { .. } | Reply::Stopped { .. } => 503,
         _ => 201,
     }
 }

@@ -1,0 +1,12 @@
+pub mod Carries
+pub mod Credentials
+pub mod Depths
+pub mod Fields
+pub mod Files
+pub mod Paths
+pub mod Posts
+pub mod Refusals
+pub mod Routes
+pub mod Shapes
+pub mod Sound
+pub mod Verbs

@@ -1,0 +1,11 @@
+use ocm_entry::Ask;
+use ocm_pages::{Page, Shape};
+
+/// What a request wants.
+#[derive(Debug, Drop, PartialEq, Eq)]
+pub enum Wanted {
+    /// That this is asked, and that the page of its reply has this shape.
+    Ask(Ask, Shape),
+    /// This page, with nothing asked: the discovery document, or a refusal of the request.
+    Page(Page),
+}

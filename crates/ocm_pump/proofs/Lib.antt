@@ -1,0 +1,6 @@
+pub mod Additions
+pub mod Framing
+pub mod Letters
+pub mod Moves
+pub mod OneAnswers
+pub mod Runs

@@ -1,0 +1,25 @@
+ghost use Rattle.std.specs.Prelude.{◌≡◌, ℕ, ◌≤◌, List, length, Option, Err, IfOk};
+ghost use Rattle.ocm_base.specs.Outside.{Rose};
+ghost use Rattle.ocm_pump.specs.Exchanges.{AddsOne};
+ghost use Rattle.ocm_pump.specs.declared.exchanges.Exchange.{Exchange};
+
+use crate::exchanges::DialEnd;
+use ocm_base::Bytes;
+use ocm_types::Host;
+use std::alloc::Global;
+
+/// How other servers are reached.
+pub trait Dial: Drop {
+    /// The exchanges so far, where it knows them. The newest is the first.
+    ghost exchanges: { Self → Option (List Exchange) };
+
+    /// How many faults it has had.
+    ghost faults: { Self → ℕ };
+
+    /// Sends a request to a host, and gives the bytes that came back until the peer closed: at most 33,619,968.
+    fn exchange(&mut self, alloc: Global, host: &Host, request: &Bytes) -> Result<Bytes, DialEnd>
+        ensures within { IfOk result (λ reply. length reply ≤ 33619968) }
+        ensures added { AddsOne (exchanges self.old) (exchanges self.new) host.now request.now result }
+        ensures rose { result ≡ Err DialEnd.Failed → Rose (faults self.old) (faults self.new) }
+        ensures never_falls { faults self.old ≤ faults self.new };
+}

@@ -1,0 +1,30 @@
+use ocm_base::{Bytes, NoMemory};
+use ocm_types::Host;
+
+/// A request that was sent to a host, and the bytes that came back. None where the dial failed.
+#[derive(Debug, Drop, PartialEq, Eq)]
+pub struct Exchange {
+    pub host: Host,
+    pub request: Bytes,
+    pub reply: Option<Bytes>,
+}
+
+/// Why no bytes came back.
+#[derive(Clone, Copy, Debug, PartialEq, Eq)]
+pub enum DialEnd {
+    /// The dial failed, and its count of faults rose.
+    Failed,
+    /// There was no memory. The request may have been sent.
+    NoMemory,
+}
+
+impl From<NoMemory> for DialEnd {
+    ghost use Rattle.std.specs.Prelude.{◌≡◌};
+    ghost use Rattle.ocm_pump.specs.declared.exchanges.DialEnd.TheVariants.{NoMemory};
+
+    ghost from_gives = { λ _ end. end ≡ NoMemory };
+
+    fn from(_failure: NoMemory) -> DialEnd {
+        DialEnd::NoMemory
+    }
+}
