@@ -1,0 +1,5 @@
+pub mod Beside
+pub mod Earlier
+pub mod Numbered
+pub mod Histories
+pub mod Bodies
