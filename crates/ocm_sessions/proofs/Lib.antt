@@ -1,0 +1,12 @@
+pub mod Entries
+pub mod Stamping
+pub mod Opening
+pub mod Rereading
+pub mod Spelling
+pub mod Passing
+pub mod Keeping
+pub mod Faultless
+pub mod Sizes
+pub mod Replying
+pub mod Appending
+pub mod Surviving

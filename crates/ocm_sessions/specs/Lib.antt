@@ -1,0 +1,4 @@
+pub mod Readings
+pub mod Written
+pub mod Sessions
+pub mod Crashes
