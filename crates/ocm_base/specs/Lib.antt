@@ -1,4 +1,6 @@
 pub mod Decimal
 pub mod Hex
+pub mod Items
 pub mod Memory
 pub mod Outside
+pub mod Shared

@@ -1,4 +1,4 @@
-use Rattle.std.specs.Prelude.{ℕ, List, Bool, nat_eq}
+use Rattle.std.specs.Prelude.{ℕ, ◌-◌, List, Bool, nat_eq, min, length, slice_get, unwrap_or}
 use Rattle.std.specs.List.{list_any}
 
 -- a source in memory: the bytes that it has left, how many a call gives at most, the numbers of the calls
@@ -28,3 +28,12 @@ pub record SinkState : Type 0 where
 -- whether the call of this number is one of those that fail
 abbrev pub is_listed : List ℕ → ℕ → Bool
 is_listed fails call = list_any (λ listed. nat_eq listed call) fails
+
+-- a clock in memory: the values that it gives in turn, and those that it gave, oldest first
+pub record ClockState : Type 0 where
+  pub values : List ℕ
+  pub given : List ℕ
+
+-- what a clock of these values gives after so many: the next one, the last one from then on, 0 where there is none
+abbrev pub value_at : List ℕ → ℕ → ℕ
+value_at values count = unwrap_or (slice_get values (min count (length values - 1))) 0

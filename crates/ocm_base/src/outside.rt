@@ -1,4 +1,4 @@
-ghost use Rattle.std.specs.Prelude.{◌≡◌, ℕ, ◌<◌, ◌≤◌, List, [], length, take, Option, Some, IfOk, IfSome, OnErr};
+ghost use Rattle.std.specs.Prelude.{◌≡◌, ℕ, ◌<◌, ◌≤◌, List, [], ◌++◌, length, take, Option, None, Some, true, IfOk, IfSome, OnErr};
 ghost use Rattle.ocm_base.specs.Outside.{Rose, Appends, Takes};
 
 use crate::failures::Failed;
@@ -22,6 +22,16 @@ pub trait Source: Drop {
         ensures err { OnErr result (left self.new ≡ left self.old) }
         ensures rose { OnErr result (Rose (faults self.old) (faults self.new)) }
         ensures never_falls { faults self.old ≤ faults self.new };
+
+    /// Whether nothing is here to read now, and the source may be handed back until there is. It is asked between
+    /// two messages, where each byte that was read was used. A source that knows what it has left never rests.
+    fn rests(&mut self) -> bool
+        ensures told { result ≡ true → left self.old ≡ None }
+        ensures left { left self.new ≡ left self.old }
+        ensures faults { faults self.new ≡ faults self.old }
+    {
+        false
+    }
 }
 
 /// Where bytes go.
@@ -41,4 +51,21 @@ pub trait Sink: Drop {
         ensures err { OnErr result (taken self.new ≡ taken self.old) }
         ensures rose { OnErr result (Rose (faults self.old) (faults self.new)) }
         ensures never_falls { faults self.old ≤ faults self.new };
+
+    /// Takes some bytes from the front of two pieces, the second behind the first, at least one, and answers how
+    /// many.
+    fn write_two(&mut self, first: &[u8], second: &[u8]) -> Result<usize, Failed>
+        requires { 0 < length (first.now ++ second.now) }
+        ensures some { IfOk result (λ n. 0 < n) }
+        ensures within { IfOk result (λ n. n ≤ length (first.now ++ second.now)) }
+        ensures ok { IfOk result (λ n. Appends (taken self.old) (taken self.new) (take n (first.now ++ second.now))) }
+        ensures err { OnErr result (taken self.new ≡ taken self.old) }
+        ensures rose { OnErr result (Rose (faults self.old) (faults self.new)) }
+        ensures never_falls { faults self.old ≤ faults self.new }
+    {
+        if first.is_empty() {
+            return self.write(second);
+        }
+        self.write(first)
+    }
 }

@@ -1,7 +1,7 @@
 use crate::{
-    Bytes, Copied, Failed, HexFault, List, MemSink, MemSource, NoMemory, PureSink, PureSource,
-    ReadEnd, Sink, Source, StdSink, StdSource, Text, decimal_read, hex_of, hex_read, read_whole,
-    write_all,
+    Bytes, Clock, Copied, Failed, Gate, HexFault, Joined, List, MemClock, MemSink, MemSource,
+    NoMemory, PureSink, PureSource, ReadEnd, Sink, Source, StdSink, StdSource, Text, decimal_read,
+    hex_of, hex_read, read_whole, write_all,
 };
 use std::alloc::Global;
 use std::io;
@@ -140,4 +140,44 @@ fn copies_each_element(rt: HostRuntime) -> Result<(), Fail> {
     assert_eq!(rt; copy.pop().ok_or("empty")?.as_str(), "two");
     assert!(rt; copy < list);
     Ok(())
+}
+
+#[test]
+fn shared_bytes_part_where_one_grows(rt: HostRuntime) -> Result<(), Fail> {
+    let alloc = rt.alloc();
+    let bytes = Bytes::of(alloc, &[7u8; 300])?;
+    let mut copy = bytes.copy()?;
+    copy.add(b"x")?;
+    assert_eq!(rt; bytes.as_slice(), [7u8; 300].as_slice());
+    assert_eq!(rt; copy.len(), 301);
+    assert_eq!(rt; copy.as_slice().last(), Some(&b'x'));
+    Ok(())
+}
+
+#[test]
+fn two_parts_are_written_in_their_order(rt: HostRuntime) -> Result<(), Fail> {
+    let alloc = rt.alloc();
+    let both = Joined::of(Bytes::of(alloc, b"head")?, Bytes::of(alloc, b"body")?);
+    let mut sink = MemSink::new(alloc, 3, List::new(alloc), 8)?;
+    assert_eq!(rt; both.write_to(&mut sink), Ok(()));
+    assert_eq!(rt; sink.bytes().as_slice(), b"headbody".as_slice());
+    assert_eq!(rt; both.len(), 8);
+    Ok(())
+}
+
+#[test]
+fn clocks_stay_at_their_last_value(rt: HostRuntime) -> Result<(), Fail> {
+    let alloc = rt.alloc();
+    let mut clock = MemClock::new(calls(alloc, &[5, 9])?);
+    assert_eq!(rt; (clock.now(), clock.now(), clock.now()), (5, 9, 9));
+    assert_eq!(rt; MemClock::new(List::new(alloc)).now(), 0);
+    Ok(())
+}
+
+#[test]
+fn a_gate_stays_set(rt: HostRuntime) {
+    let gate = Gate::new();
+    assert!(rt; !gate.is_set());
+    gate.set();
+    assert!(rt; gate.is_set());
 }

@@ -1,0 +1,26 @@
+use std::sync::atomic::{AtomicBool, Ordering};
+
+/// A gate between threads, which is set once. Contracts know nothing of it.
+#[derive(Drop)]
+pub struct Gate {
+    is_set: AtomicBool,
+}
+
+impl Gate {
+    /// A gate that is not set.
+    pub fn new() -> Gate {
+        Gate {
+            is_set: AtomicBool::new(false),
+        }
+    }
+
+    /// Sets it.
+    pub fn set(&self) {
+        self.is_set.store(true, Ordering::SeqCst);
+    }
+
+    /// Whether it was set.
+    pub fn is_set(&self) -> bool {
+        self.is_set.load(Ordering::SeqCst)
+    }
+}
