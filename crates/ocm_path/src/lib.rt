@@ -7,8 +7,6 @@ mod laws;
 mod paths;
 mod reading;
 mod segments;
-#[cfg(test)]
-mod tests;
 
 pub use faults::PathFault;
 pub use laws::escaped_reads_back;

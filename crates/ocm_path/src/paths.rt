@@ -68,6 +68,7 @@ impl Path {
         }
         let segments = read_segments(alloc, without_last_slash(below))?;
         if joined_len(segments.as_slice()) > 1024 {
+            drop(segments);
             return Err(PathFault::TooLong);
         }
         Ok(Path { segments })
@@ -136,6 +137,17 @@ impl Path {
         let mut segments = List::new(self.segments.allocator());
         add_copies(&mut segments, &all[..all.len().saturating_sub(1)])?;
         Ok(Path { segments })
+    }
+
+    /// This path without its last segment, in the memory that it has; the root's is the root.
+    pub fn into_parent(self) -> Path
+        ensures { result ≡ parent self }
+    {
+        let mut segments = self.segments.into_vec();
+        let _last = segments.pop();
+        Path {
+            segments: List::from_vec(segments),
+        }
     }
 
     /// This path with those segments below it.

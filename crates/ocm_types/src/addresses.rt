@@ -8,7 +8,7 @@ use crate::address_faults::AddressFault;
 use crate::hosts::Host;
 use crate::names::Name;
 use crate::texts::TextFault;
-use ocm_base::{Copied, NoMemory, Text};
+use ocm_base::{Copied, NoMemory, Text, and};
 use std::alloc::Global;
 
 /// A user at a server.
@@ -27,8 +27,7 @@ impl Address {
         ensures { Gives (λ a. a) result (addresses.address_of s.now) }
     {
         let (user, host) = parts(s)?;
-        let user = read_user(alloc, user)?;
-        let host = Host::read(alloc, host)?;
+        let (user, host) = and(read_user(alloc, user)?, Host::read(alloc, host))?;
         Ok(Address { user, host })
     }
 
@@ -38,12 +37,9 @@ impl Address {
     {
         match Address::read(alloc, s) {
             Ok(address) => {
-                let text = address.text(alloc)?;
-                if text.as_str() == s {
-                    Ok(Some(address))
-                } else {
-                    Ok(None)
-                }
+                let text = address.text(alloc);
+                let (address, text) = and(address, text)?;
+                Ok((text.as_str() == s).then_some(address))
             }
             Err(AddressFault::NoMemory) => Err(NoMemory),
             Err(_) => Ok(None),
@@ -64,8 +60,7 @@ impl Address {
     pub fn copy(&self) -> Result<Address, NoMemory>
         ensures { IfOk result (λ a. a ≡ self.now) }
     {
-        let user = self.user.copy()?;
-        let host = self.host.copy()?;
+        let (user, host) = and(self.user.copy()?, self.host.copy())?;
         Ok(Address { user, host })
     }
 }
@@ -92,71 +87,5 @@ fn read_user(alloc: Global, s: &str) -> Result<Name, AddressFault>
         Err(TextFault::Length) => Err(AddressFault::UserLength),
         Err(TextFault::Char) => Err(AddressFault::UserChar),
         Err(TextFault::NoMemory) => Err(AddressFault::NoMemory),
-    }
-}
-
-#[cfg(test)]
-mod tests {
-    use super::*;
-    use std::test::*;
-
-    #[test]
-    fn faults(rt: HostRuntime) {
-        let rows = [
-            ("bob", AddressFault::NoAt),
-            ("@h", AddressFault::UserLength),
-            ("a/b@h", AddressFault::UserChar),
-            ("a@", AddressFault::HostLength),
-            ("a@h_x", AddressFault::HostChar),
-            ("a@h:0", AddressFault::Port),
-            ("a@h:", AddressFault::Port),
-            ("a@h:080", AddressFault::Port),
-            ("a@h:65536", AddressFault::Port),
-            ("a@HTTP://h", AddressFault::Port),
-        ];
-        for (text, fault) in rows {
-            assert_eq!(rt; Address::read(rt.alloc(), text).err(), Some(fault));
-        }
-    }
-
-    #[test]
-    fn texts(rt: HostRuntime) -> Result<(), Fail> {
-        let rows = [
-            ("x@y@H.Example:80/", "x@y", "h.example"),
-            ("a@http://h:80", "a", "h"),
-            ("a@h:65535", "a", "h:65535"),
-        ];
-        for (text, user, host) in rows {
-            let address = Address::read(rt.alloc(), text)
-                .ok()
-                .ok_or("this is an address")?;
-            assert_eq!(rt; address.user.as_str(), user);
-            assert_eq!(rt; address.host.as_str(), host);
-        }
-        Ok(())
-    }
-
-    #[test]
-    fn own_texts(rt: HostRuntime) -> Result<(), Fail> {
-        let text = "x@y@h.example:8080";
-        let read = Address::read_canonical(rt.alloc(), text)
-            .ok()
-            .ok_or("there is memory")?;
-        let address = read.ok_or("this is an address's own text")?;
-        let copied = address.copied().ok().ok_or("there is memory")?;
-        let spelled = copied.text(rt.alloc()).ok().ok_or("there is memory")?;
-        assert!(rt; copied == address);
-        assert_eq!(rt; spelled.as_str(), text);
-        for other in ["x@H", "x@h:80", "x@http://h", "x"] {
-            let read = Address::read_canonical(rt.alloc(), other)
-                .ok()
-                .ok_or("there is memory")?;
-            assert!(rt; read.is_none());
-        }
-        let host = Host::read_canonical(rt.alloc(), "h:8080")
-            .ok()
-            .ok_or("there is memory")?;
-        assert!(rt; host.is_some());
-        Ok(())
     }
 }

@@ -9,7 +9,7 @@ ghost use Rattle.ocm_types.specs.Hosts as hosts;
 ghost use Rattle.ocm_types.specs.Hosts.{Gives};
 
 use crate::address_faults::AddressFault;
-use ocm_base::{Copied, NoMemory, Text};
+use ocm_base::{Copied, NoMemory, Text, and};
 use std::alloc::Global;
 use std::marker::Model;
 
@@ -49,11 +49,8 @@ impl Host {
     {
         match Host::read(alloc, s) {
             Ok(host) => {
-                if host.as_str() == s {
-                    Ok(Some(host))
-                } else {
-                    Ok(None)
-                }
+                let same = host.as_str() == s;
+                Ok(same.then_some(host))
             }
             Err(AddressFault::NoMemory) => Err(NoMemory),
             Err(_) => Ok(None),
@@ -95,8 +92,7 @@ fn canonical_text(alloc: Global, s: &str) -> Result<Text, AddressFault>
     ensures { Gives (λ t. t) result (hosts.host_of s.now) }
 {
     let (name, port) = name_and_port(bare(s));
-    let name = lower_name(alloc, name)?;
-    let port = kept_port(port)?;
+    let (name, port) = and(lower_name(alloc, name)?, kept_port(port))?;
     match with_port(name, port) {
         Ok(text) => Ok(text),
         Err(NoMemory) => Err(AddressFault::NoMemory),

@@ -6,7 +6,7 @@ use crate::identifiers::{ProviderId, SenderId};
 use crate::names::ShareName;
 use crate::rights::Perms;
 use crate::secrets::Secret;
-use ocm_base::{Copied, NoMemory};
+use ocm_base::{Copied, NoMemory, and};
 
 /// The same value once more, where there is one.
 fn copy_of_option<T: Copied>(value: &Option<T>) -> Result<Option<T>, NoMemory>
@@ -19,6 +19,13 @@ fn copy_of_option<T: Copied>(value: &Option<T>) -> Result<Option<T>, NoMemory>
         }
         None => Ok(None),
     }
+}
+
+/// The marks that each notification has, once more.
+fn copies_of(id: &ProviderId, secret: &Secret) -> Result<(ProviderId, Secret), NoMemory>
+    ensures { IfOk result (λ copies. (copies.0 ≡ id.now) × (copies.1 ≡ secret.now)) }
+{
+    and(id.copy()?, secret.copy())
 }
 
 /// An offer of a share: what the body of POST to `{endPoint}/shares` says (Open Cloud Mesh API 1.1).
@@ -45,13 +52,12 @@ impl Offer {
     pub fn copy(&self) -> Result<Offer, NoMemory>
         ensures { IfOk result (λ copy. copy ≡ self.now) }
     {
-        let with = self.with.copy()?;
-        let name = self.name.copy()?;
-        let id = self.id.copy()?;
-        let owner = self.owner.copy()?;
-        let sender = self.sender.copy()?;
-        let secret = self.secret.copy()?;
-        let perms = self.perms;
+        let made = and(self.with.copy()?, self.name.copy())?;
+        let made = and(made, self.id.copy())?;
+        let made = and(made, self.owner.copy())?;
+        let made = and(made, self.sender.copy())?;
+        let (made, secret) = and(made, self.secret.copy())?;
+        let ((((with, name), id), owner), sender) = made;
         Ok(Offer {
             with,
             name,
@@ -59,7 +65,7 @@ impl Offer {
             owner,
             sender,
             secret,
-            perms,
+            perms: self.perms,
         })
     }
 }
@@ -136,10 +142,9 @@ impl Notice {
                 with,
                 perms,
             } => {
-                let id = id.copy()?;
-                let secret = secret.copy()?;
-                let owner = copy_of_option(owner)?;
-                let with = copy_of_option(with)?;
+                let made = and(copies_of(id, secret)?, copy_of_option(owner))?;
+                let (made, with) = and(made, copy_of_option(with))?;
+                let ((id, secret), owner) = made;
                 Ok(Notice::Accepted {
                     id,
                     secret,
@@ -149,13 +154,11 @@ impl Notice {
                 })
             }
             Notice::Declined { id, secret } => {
-                let id = id.copy()?;
-                let secret = secret.copy()?;
+                let (id, secret) = copies_of(id, secret)?;
                 Ok(Notice::Declined { id, secret })
             }
             Notice::Unshared { id, secret } => {
-                let id = id.copy()?;
-                let secret = secret.copy()?;
+                let (id, secret) = copies_of(id, secret)?;
                 Ok(Notice::Unshared { id, secret })
             }
             Notice::ReshareRequest {
@@ -165,10 +168,9 @@ impl Notice {
                 sender_id,
                 perms,
             } => {
-                let id = id.copy()?;
-                let secret = secret.copy()?;
-                let with = with.copy()?;
-                let sender_id = sender_id.copy()?;
+                let made = and(copies_of(id, secret)?, with.copy())?;
+                let (made, sender_id) = and(made, sender_id.copy())?;
+                let ((id, secret), with) = made;
                 Ok(Notice::ReshareRequest {
                     id,
                     secret,
@@ -178,8 +180,7 @@ impl Notice {
                 })
             }
             Notice::ReshareUndo { id, secret } => {
-                let id = id.copy()?;
-                let secret = secret.copy()?;
+                let (id, secret) = copies_of(id, secret)?;
                 Ok(Notice::ReshareUndo { id, secret })
             }
             Notice::Changed {
@@ -188,8 +189,7 @@ impl Notice {
                 serial,
                 perms,
             } => {
-                let id = id.copy()?;
-                let secret = secret.copy()?;
+                let (id, secret) = copies_of(id, secret)?;
                 Ok(Notice::Changed {
                     id,
                     secret,
@@ -256,8 +256,7 @@ impl Numbered {
     pub fn copy(&self) -> Result<Numbered, NoMemory>
         ensures { IfOk result (λ copy. copy ≡ self.now) }
     {
-        let to = self.to.copy()?;
-        let letter = self.letter.copy()?;
+        let (to, letter) = and(self.to.copy()?, self.letter.copy())?;
         Ok(Numbered {
             number: self.number,
             to,
