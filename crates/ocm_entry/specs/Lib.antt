@@ -1,5 +1,3 @@
-pub mod PathTexts
+pub mod Fitting
 pub mod Proper
-pub mod Reading
 pub mod Refusals
-pub mod Spells

@@ -1,6 +1,6 @@
 ghost use Rattle.std.specs.Prelude.{◌≡◌, IfOk};
 
-use ocm_base::{Bytes, NoMemory};
+use ocm_base::{Bytes, NoMemory, and};
 use ocm_path::Path;
 use ocm_types::{Address, Fresh, Name, Notice, Offer, Perms, ProviderId, Secret};
 
@@ -133,10 +133,10 @@ impl Ask {
                 name: name.copy()?,
                 fresh: *fresh,
             }),
-            Ask::Local { key, cmd } => Ok(Ask::Local {
-                key: key.copy()?,
-                cmd: cmd.copy()?,
-            }),
+            Ask::Local { key, cmd } => {
+                let (key, cmd) = and(key.copy()?, cmd.copy())?;
+                Ok(Ask::Local { key, cmd })
+            }
             Ask::Offer { offer } => Ok(Ask::Offer {
                 offer: offer.copy()?,
             }),
@@ -149,12 +149,16 @@ impl Ask {
                 method,
                 path,
                 body,
-            } => Ok(Ask::Dav {
-                secret: secret.copy()?,
-                method: *method,
-                path: path.copy()?,
-                body: body.copy()?,
-            }),
+            } => {
+                let front = and(secret.copy()?, path.copy())?;
+                let ((secret, path), body) = and(front, body.copy())?;
+                Ok(Ask::Dav {
+                    secret,
+                    method: *method,
+                    path,
+                    body,
+                })
+            }
             Ask::Due => Ok(Ask::Due),
             Ask::Settle { number, status, id } => Ok(Ask::Settle {
                 number: *number,
@@ -168,13 +172,17 @@ impl Ask {
                 to,
                 moving,
                 overwrite,
-            } => Ok(Ask::Carry {
-                secret: secret.copy()?,
-                from: from.copy()?,
-                to: to.copy()?,
-                moving: *moving,
-                overwrite: *overwrite,
-            }),
+            } => {
+                let front = and(secret.copy()?, from.copy())?;
+                let ((secret, from), to) = and(front, to.copy())?;
+                Ok(Ask::Carry {
+                    secret,
+                    from,
+                    to,
+                    moving: *moving,
+                    overwrite: *overwrite,
+                })
+            }
         }
     }
 }
@@ -199,12 +207,15 @@ impl Cmd {
                 with,
                 perms,
                 fresh,
-            } => Ok(Cmd::Share {
-                path: path.copy()?,
-                with: with.copy()?,
-                perms: *perms,
-                fresh: *fresh,
-            }),
+            } => {
+                let (path, with) = and(path.copy()?, with.copy())?;
+                Ok(Cmd::Share {
+                    path,
+                    with,
+                    perms: *perms,
+                    fresh: *fresh,
+                })
+            }
             Cmd::Unshare { id } => Ok(Cmd::Unshare { id: *id }),
             Cmd::Limit { id, perms } => Ok(Cmd::Limit {
                 id: *id,

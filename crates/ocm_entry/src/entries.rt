@@ -2,7 +2,7 @@ ghost use Rattle.std.specs.Prelude.{◌≡◌, IfOk};
 
 use crate::asks::Ask;
 use crate::replies::Reply;
-use ocm_base::NoMemory;
+use ocm_base::{NoMemory, and};
 
 /// An ask with the reply that was given: one entry of a server's history.
 #[derive(Debug, Drop, PartialEq, Eq)]
@@ -16,8 +16,7 @@ impl Entry {
     pub fn copy(&self) -> Result<Entry, NoMemory>
         ensures { IfOk result (λ e. e ≡ self.now) }
     {
-        let ask = self.ask.copy()?;
-        let reply = self.reply.copy()?;
+        let (ask, reply) = and(self.ask.copy()?, self.reply.copy())?;
         Ok(Entry { ask, reply })
     }
 }

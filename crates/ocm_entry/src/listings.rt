@@ -1,6 +1,6 @@
 ghost use Rattle.std.specs.Prelude.{◌≡◌, IfOk};
 
-use ocm_base::{Copied, NoMemory};
+use ocm_base::{Copied, NoMemory, and};
 use ocm_path::Path;
 use ocm_types::{Address, Offer, Perms, Phase, RequestPhase};
 
@@ -71,13 +71,16 @@ impl Line {
                 with,
                 perms,
                 live,
-            } => Ok(Line::Share {
-                id: *id,
-                path: path.copy()?,
-                with: with.copy()?,
-                perms: *perms,
-                live: *live,
-            }),
+            } => {
+                let (path, with) = and(path.copy()?, with.copy())?;
+                Ok(Line::Share {
+                    id: *id,
+                    path,
+                    with,
+                    perms: *perms,
+                    live: *live,
+                })
+            }
             Line::Received {
                 number,
                 offer,
@@ -93,13 +96,16 @@ impl Line {
                 with,
                 perms,
                 state,
-            } => Ok(Line::Request {
-                number: *number,
-                received: *received,
-                with: with.copy()?,
-                perms: *perms,
-                state: state.copy()?,
-            }),
+            } => {
+                let (with, state) = and(with.copy()?, state.copy())?;
+                Ok(Line::Request {
+                    number: *number,
+                    received: *received,
+                    with,
+                    perms: *perms,
+                    state,
+                })
+            }
         }
     }
 }

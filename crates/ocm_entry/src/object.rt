@@ -1,6 +1,9 @@
 ghost use Rattle.std.specs.Prelude.{◌≡◌, List, ◌∷◌, IsTrue};
+ghost use Rattle.ocm_entry.specs.Fitting.{Fits};
 ghost use Rattle.ocm_entry.specs.Proper.{is_proper};
+ghost use Rattle.ocm_entry.specs.declared.asks.Ask as asks;
 ghost use Rattle.ocm_entry.specs.declared.entries.Entry.{Entry};
+ghost use Rattle.ocm_entry.specs.declared.replies.Reply as replies;
 
 use crate::asks::Ask;
 use crate::replies::Reply;
@@ -29,4 +32,7 @@ pub trait Object: Drop {
         ensures terms { terms self.new ≡ terms self.old }
         ensures stands { (k h : List Entry) → stands self.old k h → legal (terms self.old) k h → stands self.new k (record { ask = ask; reply = result } ∷ h) }
         ensures legal { (k h : List Entry) → stands self.old k h → legal (terms self.old) k h → legal (terms self.old) k (record { ask = ask; reply = result } ∷ h) };
+
+    // The newest reply of a legal history fits its ask.
+    ghost fits: { (t : Self.Terms) (k h : List Entry) (ask : asks.Ask) (reply : replies.Reply) → legal t k (record { ask = ask; reply = reply } ∷ h) → Fits ask reply };
 }

@@ -1,6 +1,6 @@
 ghost use Rattle.std.specs.Prelude.{◌≡◌, IfOk};
 
-use ocm_base::{Bytes, NoMemory};
+use ocm_base::{Bytes, NoMemory, and};
 use ocm_path::Path;
 use ocm_types::{Address, Name, Perms, RequestPhase, Rights, Secret, SenderId};
 
@@ -80,8 +80,7 @@ impl User {
     pub fn copy(&self) -> Result<User, NoMemory>
         ensures { IfOk result (λ u. u ≡ self.now) }
     {
-        let name = self.name.copy()?;
-        let key = self.key.copy()?;
+        let (name, key) = and(self.name.copy()?, self.key.copy())?;
         Ok(User { name, key })
     }
 }
@@ -91,17 +90,20 @@ impl Share {
     pub fn copy(&self) -> Result<Share, NoMemory>
         ensures { IfOk result (λ s. s ≡ self.now) }
     {
-        let sender_id = match &self.sender_id {
-            Some(id) => Some(id.copy()?),
-            None => None,
-        };
+        let front = and(self.root.copy()?, self.with.copy())?;
+        let front = and(front, self.sender.copy())?;
+        let front = and(front, self.secret.copy())?;
+        let ((((root, with), sender), secret), sender_id) = and(
+            front,
+            copy_of_id(&self.sender_id),
+        )?;
         Ok(Share {
             owner: self.owner,
-            root: self.root.copy()?,
+            root,
             parent: self.parent,
-            with: self.with.copy()?,
-            sender: self.sender.copy()?,
-            secret: self.secret.copy()?,
+            with,
+            sender,
+            secret,
             granted: self.granted,
             sender_id,
             asked: self.asked,
@@ -114,8 +116,7 @@ impl Request {
     pub fn copy(&self) -> Result<Request, NoMemory>
         ensures { IfOk result (λ r. r ≡ self.now) }
     {
-        let with = self.with.copy()?;
-        let state = self.state.copy()?;
+        let (with, state) = and(self.with.copy()?, self.state.copy())?;
         Ok(Request {
             received: self.received,
             with,
@@ -155,8 +156,16 @@ impl Node {
     pub fn copy(&self) -> Result<Node, NoMemory>
         ensures { IfOk result (λ n. n ≡ self.now) }
     {
-        let place = self.place.copy()?;
-        let standing = self.standing.copy()?;
+        let (place, standing) = and(self.place.copy()?, self.standing.copy())?;
         Ok(Node { place, standing })
+    }
+}
+
+fn copy_of_id(id: &Option<SenderId>) -> Result<Option<SenderId>, NoMemory>
+    ensures { IfOk result (λ c. c ≡ id.now) }
+{
+    match id {
+        Some(id) => Ok(Some(id.copy()?)),
+        None => Ok(None),
     }
 }

@@ -1,0 +1,3 @@
+pub mod PathTexts
+pub mod Reading
+pub mod Spells

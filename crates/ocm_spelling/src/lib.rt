@@ -1,0 +1,15 @@
+//! The bytes of asks, as a journal keeps them: an ask that may change something has one spelling
+//! ([`encode`], [`decode`]).
+#![tactic(auto)]
+
+mod appending;
+mod decoding;
+mod encoding;
+mod entry_faults;
+mod fields;
+pub mod laws;
+mod path_texts;
+
+pub use decoding::decode;
+pub use encoding::{encode, has_spelling};
+pub use entry_faults::EntryFault;
