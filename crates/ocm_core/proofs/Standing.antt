@@ -8,7 +8,7 @@ use Rattle.ocm_rules.specs.Messages.{view_of}
 use Rattle.ocm_rules.specs.State.{State, Stands, after, step, state_of, view_in}
 use Rattle.ocm_rules.proofs.Kept.{failure-changes, kept-answered}
 use Rattle.ocm_rules.proofs.States.{answer-state, state_of-kept, view_of-state}
-use Rattle.ocm_planning.specs.Plans.{Plan, Plans}
+use Rattle.ocm_plan.specs.Plans.{Plan, Plans}
 use Rattle.ocm_core.specs.Standing.{IsAfter}
 
 -- what is read of the history is what is read of the lists

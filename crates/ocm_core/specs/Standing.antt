@@ -4,7 +4,7 @@ use Rattle.ocm_entry.specs.declared.asks.Ask.{Ask}
 use Rattle.ocm_entry.specs.declared.entries.Entry.{Entry}
 use Rattle.ocm_rules.specs.History.{IsLegal}
 use Rattle.ocm_rules.specs.State.{State, Stands}
-use Rattle.ocm_planning.specs.Plans.{Plan, Plans}
+use Rattle.ocm_plan.specs.Plans.{Plan, Plans}
 
 -- the lists are those of a legal history
 pub record IsAfter (st : State) (g : List Entry) : Type 0 where

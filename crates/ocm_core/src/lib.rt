@@ -8,5 +8,5 @@
 pub mod laws;
 mod server;
 
-pub use ocm_planning::Planned;
+pub use ocm_plan::Planned;
 pub use server::Core;

@@ -9,7 +9,7 @@ use Rattle.ocm_rules.specs.Messages.{as_sent, out}
 use Rattle.ocm_rules.specs.Numbers.{at_number}
 use Rattle.ocm_rules.specs.State.{State}
 use Rattle.ocm_tables.specs.Tables.{ServerLists}
-use Rattle.ocm_planning.specs.Plans.{Plan, Plans}
+use Rattle.ocm_plan.specs.Plans.{Plan, Plans}
 use Rattle.ocm_core.specs.Standing.{IsAfter}
 use Rattle.ocm_core.proofs.Standing.{reply-after}
 use Rattle.ocm_world.specs.Servers.{Server, World, message_at, message_of, reply_of, server_after, server_at}

@@ -8,7 +8,7 @@ use Rattle.ocm_entry.specs.declared.asks.Ask.{Ask}
 use Rattle.ocm_entry.specs.declared.asks.Ask.TheVariants as asks
 use Rattle.ocm_entry.specs.declared.replies.Reply.{Reply}
 use Rattle.ocm_entry.specs.declared.replies.Reply.TheVariants as replies
-use Rattle.ocm_texts.specs.Texts.{reply_lines}
+use Rattle.ocm_transcript.specs.Texts.{reply_lines}
 use Rattle.ocm_script.specs.declared.events.Event.{Event}
 use Rattle.ocm_script.specs.declared.events.Event.TheVariants as events
 use Rattle.ocm_script.specs.Events.{host_of}

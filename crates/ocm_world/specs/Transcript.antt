@@ -3,7 +3,7 @@ use Rattle.std.specs.Prelude.{◌≡◌, ℕ, ◌+◌, List, [], ◌∷◌, ◌+
 use Rattle.std.specs.Option.{option_map_or}
 use Rattle.ocm_base.specs.Outside.{Appends}
 use Rattle.ocm_entry.specs.declared.asks.Ask.{Ask}
-use Rattle.ocm_texts.specs.Texts.{line_text, reply_lines}
+use Rattle.ocm_transcript.specs.Texts.{line_text, reply_lines}
 use Rattle.ocm_script.specs.declared.events.Event.{Event}
 use Rattle.ocm_script.specs.declared.events.Event.TheVariants.{Node, Deliver, Pump}
 use Rattle.ocm_script.specs.Events.{host_of}

@@ -3,7 +3,7 @@ ghost use Rattle.std.specs.Prelude.{◌≡◌, ◌++◌, codes, IfOk, IsTrue};
 ghost use Rattle.ocm_entry.specs.declared.asks.Ask.TheVariants as asks;
 ghost use Rattle.ocm_entry.specs.Proper.{is_proper};
 ghost use Rattle.ocm_world.specs.Servers.{World};
-ghost use Rattle.ocm_texts.specs.Texts as texts;
+ghost use Rattle.ocm_transcript.specs.Texts as texts;
 ghost use Rattle.ocm_world.specs.Deliveries as deliveries;
 ghost use Rattle.ocm_world.specs.Deliveries.{next_wanting};
 ghost use Rattle.ocm_world.specs.Running.{AreOf, Asks, Runs};
@@ -13,7 +13,7 @@ use crate::servers::Servers;
 use ocm_base::{Bytes, NoMemory};
 use ocm_entry::{Ask, Reply};
 use ocm_letters::provider_id;
-use ocm_texts::{line_text, reply_lines, told_line};
+use ocm_transcript::{line_text, reply_lines, told_line};
 use ocm_types::{Fresh, Host, Numbered, ProviderId};
 use std::alloc::Global;
 

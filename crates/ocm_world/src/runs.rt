@@ -15,7 +15,7 @@ use crate::servers::Servers;
 use ocm_base::{Bytes, NoMemory};
 use ocm_entry::Ask;
 use ocm_script::Event;
-use ocm_texts::{line_text, reply_lines};
+use ocm_transcript::{line_text, reply_lines};
 use ocm_types::Host;
 use std::alloc::Global;
 

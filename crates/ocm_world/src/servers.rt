@@ -2,7 +2,7 @@
 ghost use Rattle.std.specs.Prelude.{◌≡◌, ◌∷◌, ◌++◌, [], Bool, IsTrue, OnOk, option_copied, position};
 ghost use Rattle.ocm_entry.specs.declared.asks.Ask.{Ask};
 ghost use Rattle.ocm_entry.specs.Proper.{is_proper};
-ghost use Rattle.ocm_planning.specs.Plans.{Plans};
+ghost use Rattle.ocm_plan.specs.Plans.{Plans};
 ghost use Rattle.ocm_core.specs.Standing.{IsPlanned};
 ghost use Rattle.ocm_world.specs.Servers.{Server, World, message_at, new_server, reply_of, server_after};
 ghost use Rattle.ocm_world.specs.Running.{AreOf, Asks, IsOf, is_at};

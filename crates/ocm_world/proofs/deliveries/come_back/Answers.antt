@@ -2,7 +2,7 @@ use Rattle.std.proofs.Common.{◌≡◌, ◌++◌, ◌∷◌, ℕ, List, [], tru
 use Rattle.ocm_world.proofs.Lines.{Runs-answered, Runs-on, Runs-same, Runs-still, Runs-unanswered, if_ok}
 use Rattle.std.specs.Prelude.{codes}
 use Rattle.ocm_entry.specs.declared.replies.Reply.{Reply}
-use Rattle.ocm_texts.specs.Texts.{told_line, reply_lines}
+use Rattle.ocm_transcript.specs.Texts.{told_line, reply_lines}
 use Rattle.ocm_world.proofs.deliveries.come_back.Goals as goal
 
 pub returns-in-Some : goal.returns-in-Some

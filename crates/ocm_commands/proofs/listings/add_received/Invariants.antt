@@ -1,7 +1,0 @@
-use Rattle.std.proofs.Common.{◌≡◌, ◌++◌, take}
-use Rattle.std.specs.Prelude.{filter_map}
-use Rattle.ocm_commands.specs.Told.{record_told}
-use Rattle.ocm_commands.proofs.listings.add_received.Given as goal
-
-abbrev pub invariant-loop-number : goal.invariant-loop-number
-invariant-loop-number l = l.lines ≡ l.initial.lines ++ filter_map (record_told l.tables.state) (take l.number-index l.numbers)

@@ -1,5 +1,0 @@
-use Rattle.ocm_laws.proofs.Revoked.{undone-ended}
-use Rattle.ocm_laws.proofs.revocation.undoing_ends_a_share.Goals as goal
-
-pub returns : goal.returns
-returns c = λ host before id secret fresh number i names below. undone-ended host before id secret fresh number i names below

@@ -1,5 +1,0 @@
-use Rattle.ocm_laws.proofs.Revoked.{unshared-ended}
-use Rattle.ocm_laws.proofs.revocation.unsharing_ends_a_share.Goals as goal
-
-pub returns : goal.returns
-returns c = λ host before key id i below. unshared-ended host before key id i below

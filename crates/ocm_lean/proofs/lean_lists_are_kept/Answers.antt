@@ -1,5 +1,0 @@
-use Rattle.ocm_lean.proofs.Answered.{lean-kept}
-use Rattle.ocm_lean.proofs.lean_lists_are_kept.Goals as goal
-
-pub returns : goal.returns
-returns c = λ host g legal. lean-kept host g legal

@@ -1,5 +1,0 @@
-use Rattle.ocm_lean.proofs.Answered.{lean-legal}
-use Rattle.ocm_lean.proofs.lean_lists_are_legal.Goals as goal
-
-pub returns : goal.returns
-returns c = λ host g legal. lean-legal host g legal

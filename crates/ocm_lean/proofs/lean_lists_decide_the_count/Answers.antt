@@ -1,5 +1,0 @@
-use Rattle.ocm_lean.proofs.Thin.{count-same}
-use Rattle.ocm_lean.proofs.lean_lists_decide_the_count.Goals as goal
-
-pub returns : goal.returns
-returns c = λ host g other same. count-same host g other same

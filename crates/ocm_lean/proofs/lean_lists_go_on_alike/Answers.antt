@@ -1,5 +1,0 @@
-use Rattle.ocm_lean.proofs.Answered.{lean-goes_on}
-use Rattle.ocm_lean.proofs.lean_lists_go_on_alike.Goals as goal
-
-pub returns : goal.returns
-returns c = λ host g other e same. lean-goes_on host e g other same

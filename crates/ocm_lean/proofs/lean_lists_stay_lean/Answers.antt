@@ -1,5 +1,0 @@
-use Rattle.ocm_lean.proofs.Answered.{lean-lean}
-use Rattle.ocm_lean.proofs.lean_lists_stay_lean.Goals as goal
-
-pub returns : goal.returns
-returns c = λ host g legal. lean-lean host g legal

@@ -1,5 +1,0 @@
-use Rattle.ocm_origins.proofs.Histories.{origins-earlier}
-use Rattle.ocm_origins.proofs.origins_are_earlier.Goals as goal
-
-pub returns : goal.returns
-returns c = origins-earlier

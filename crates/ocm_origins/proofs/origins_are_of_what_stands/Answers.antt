@@ -1,5 +1,0 @@
-use Rattle.ocm_origins.proofs.Histories.{origins-places}
-use Rattle.ocm_origins.proofs.origins_are_of_what_stands.Goals as goal
-
-pub returns : goal.returns
-returns c = origins-places

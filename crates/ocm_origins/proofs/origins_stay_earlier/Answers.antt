@@ -1,5 +1,0 @@
-use Rattle.ocm_origins.proofs.Earlier.{after-earlier}
-use Rattle.ocm_origins.proofs.origins_stay_earlier.Goals as goal
-
-pub returns : goal.returns
-returns c = after-earlier

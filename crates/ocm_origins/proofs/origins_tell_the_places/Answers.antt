@@ -1,5 +1,0 @@
-use Rattle.ocm_origins.proofs.Histories.{origins-numbered}
-use Rattle.ocm_origins.proofs.origins_tell_the_places.Goals as goal
-
-pub returns : goal.returns
-returns c = origins-numbered

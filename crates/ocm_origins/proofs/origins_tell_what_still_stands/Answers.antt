@@ -1,5 +1,0 @@
-use Rattle.ocm_origins.proofs.Histories.{origins-still}
-use Rattle.ocm_origins.proofs.origins_tell_what_still_stands.Goals as goal
-
-pub returns : goal.returns
-returns c = origins-still

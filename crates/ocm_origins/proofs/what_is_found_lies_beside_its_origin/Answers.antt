@@ -1,5 +1,0 @@
-use Rattle.ocm_origins.proofs.Bodies.{body-beside}
-use Rattle.ocm_origins.proofs.what_is_found_lies_beside_its_origin.Goals as goal
-
-pub returns : goal.returns
-returns c = body-beside

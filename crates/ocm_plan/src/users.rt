@@ -1,0 +1,48 @@
+ghost use Rattle.std.specs.Prelude.{◌≡◌, IfOk};
+ghost use Rattle.ocm_entry.specs.declared.asks.Ask.TheVariants as asks;
+ghost use Rattle.ocm_plan.specs.Plans.{Plans};
+
+use crate::limits::is_full;
+use crate::plans::Planned;
+use ocm_base::NoMemory;
+use ocm_entry::{Reply, Why};
+use ocm_tables::{Change, Tables};
+use ocm_types::{Fresh, Name, Which};
+use ocm_users::PlannedUser;
+
+/// The most users of a server.
+const MOST_USERS: u32 = 4096;
+
+/// A new user, whose key is drawn.
+pub fn plan_new_user(tables: &Tables, name: &Name, fresh: &Fresh) -> Result<Planned, NoMemory>
+    ensures { IfOk result (λ plan. Plans tables.now.state (asks.AddUser name.now fresh.now) plan) }
+{
+    if tables.is_taken(name) {
+        return Ok(Planned::refused(tables, Why::UserExists));
+    }
+    if is_full(tables.user_count(), MOST_USERS) {
+        return Ok(Planned::refused(
+            tables,
+            Why::Limit {
+                which: Which::Users,
+            },
+        ));
+    }
+    let key = fresh.secret(tables.allocator())?;
+    if tables.is_used(&key) {
+        return Ok(Planned::refused(tables, Why::Collision));
+    }
+    let user = PlannedUser::new(name, &key)?;
+    Ok(Planned::silent(tables, Reply::Key { key }, Change::AddUser(user)))
+}
+
+/// The time goes on, or stays where a tick tells no later one.
+pub fn plan_tick(tables: &Tables, clock: u64) -> Planned
+    ensures { Plans tables.now.state (asks.Tick clock) result }
+{
+    if clock > tables.moment() {
+        Planned::silent(tables, Reply::Done, Change::Advance { clock })
+    } else {
+        Planned::only(tables, Reply::Done)
+    }
+}

@@ -1,0 +1,216 @@
+//! Commands of users about their own shares.
+ghost use Rattle.std.specs.Prelude.{◌≡◌, ◌+◌, ◌<◌, ◌∷◌, [], ◌||◌, IfOk, IsTrue, Some, length, map, nat_lt};
+ghost use Rattle.ocm_entry.specs.declared.asks.Ask.TheVariants as asks;
+ghost use Rattle.ocm_entry.specs.declared.asks.Cmd.TheVariants as commands;
+ghost use Rattle.ocm_entry.specs.Proper.{is_short};
+ghost use Rattle.ocm_letters.specs.Letters.{offered_from};
+ghost use Rattle.ocm_letters.specs.Mailings.{changed_to_guests};
+ghost use Rattle.ocm_rules.specs.Answers.{is_full_of_changes};
+ghost use Rattle.ocm_rules.specs.Numbers.{same_text};
+ghost use Rattle.ocm_rules.specs.State.{view_in};
+ghost use Rattle.ocm_rules.specs.Users.{user_of_key};
+ghost use Rattle.ocm_tables.specs.Changes.{HasNumbers};
+ghost use Rattle.ocm_plan.specs.Plans.{Plans};
+ghost use Rattle.ocm_plan_local.specs.OwnRows.{IsLiveShare};
+ghost use Rattle.ocm_plan_local.specs.Told.{new_perms};
+
+use crate::reads::{live_share, stands, user_name};
+use ocm_base::{List, NoMemory};
+use ocm_chain::{Change as Changed, PlannedShare, plan_share};
+use ocm_entry::{AddressField, Reply, Share, Why};
+use ocm_letters::{NewPerms, changed_all, offered, own_share};
+use ocm_path::Path;
+use ocm_plan::{Planned, is_full, numbered, one_message, told_of_ends};
+use ocm_rules::Message;
+use ocm_tables::{Change, Tables};
+use ocm_types::{Address, Fresh, Name, Perms, Secret, Which};
+use std::alloc::Global;
+
+/// The most shares of a server, ended ones among them.
+const MOST_SHARES: u32 = 65_536;
+
+/// The most messages that tell changed permissions.
+const MOST_CHANGES: usize = 655_360;
+
+/// The most limits of shares.
+const MOST_LIMITS: u32 = 4_294_967_295;
+
+/// The end of a share, by the user of this number, who has this key.
+pub fn plan_unshare(tables: &Tables, key: &Secret, user: u32, id: u32) -> Result<Planned, NoMemory>
+    requires { user_of_key tables.now.state.users key.now ≡ Some user }
+    ensures { IfOk result (λ plan. Plans tables.now.state (asks.Local key.now (commands.Unshare id)) plan) }
+{
+    match live_share(tables, user, id) {
+        Ok(_share) => {
+            let ids = tables.cut_by(id)?;
+            let sent = told_of_ends(tables, &ids)?;
+            let change = Change::Close { id };
+            Ok(Planned::new(tables, Reply::Done, change, sent))
+        }
+        Err(why) => Ok(Planned::refused(tables, why)),
+    }
+}
+
+/// The end of a share at a moment, by the user of this number, who has this key.
+pub fn plan_expire(tables: &Tables, key: &Secret, user: u32, id: u32, until: u64) -> Planned
+    requires { user_of_key tables.now.state.users key.now ≡ Some user }
+    ensures { Plans tables.now.state (asks.Local key.now (commands.Expire id until)) result }
+{
+    match live_share(tables, user, id) {
+        Ok(_share) => Planned::silent(tables, Reply::Done, Change::Expire { id, until }),
+        Err(why) => Planned::refused(tables, why),
+    }
+}
+
+/// Other permissions for a share, by the user of this number, who has this key.
+pub fn plan_limit(
+    tables: &Tables,
+    key: &Secret,
+    user: u32,
+    id: u32,
+    perms: Perms,
+) -> Result<Planned, NoMemory>
+    requires { user_of_key tables.now.state.users key.now ≡ Some user }
+    ensures { IfOk result (λ plan. Plans tables.now.state (asks.Local key.now (commands.Limit id perms)) plan) }
+{
+    match live_share(tables, user, id) {
+        Ok(share) => plan_new_perms(tables, key, user, id, share, perms),
+        Err(why) => Ok(Planned::refused(tables, why)),
+    }
+}
+
+/// Other permissions for a live share of the user of this number, who has this key.
+fn plan_new_perms(
+    tables: &Tables,
+    key: &Secret,
+    user: u32,
+    id: u32,
+    share: &Share,
+    perms: Perms,
+) -> Result<Planned, NoMemory>
+    requires user { user_of_key tables.now.state.users key.now ≡ Some user }
+    requires live { IsLiveShare tables.now.state user id share.now }
+    ensures { IfOk result (λ plan. Plans tables.now.state (asks.Local key.now (commands.Limit id perms)) plan) }
+{
+    if !perms.within(share.granted.rights()) {
+        return Ok(Planned::refused(tables, Why::NotPermitted));
+    }
+    let told = tables.told_by_limit(id, perms)?;
+    if is_full_of_changes(tables, told.len()) {
+        let which = Which::Changes;
+        return Ok(Planned::refused(tables, Why::Limit { which }));
+    }
+    let sent = told_of_changes(tables, &told)?;
+    let change = Change::Limit { id, perms };
+    Ok(Planned::new(tables, Reply::Done, change, sent))
+}
+
+/// Whether so many more messages that tell changed permissions, or one more limit, would pass a limit.
+fn is_full_of_changes(tables: &Tables, more: usize) -> bool
+    ensures { result ≡ is_full_of_changes (view_in tables.now.state) more }
+{
+    are_too_many(tables.change_count(), more) || is_full(tables.limits(), MOST_LIMITS)
+}
+
+/// Whether so many more messages that tell changed permissions would be too many.
+fn are_too_many(count: u32, more: usize) -> bool
+    ensures { result ≡ nat_lt 655360 (count + more) }
+{
+    more.saturating_add(count as usize) > MOST_CHANGES
+}
+
+/// The messages that tell the guests of shares what they may do from now on, by one limit more.
+fn told_of_changes(tables: &Tables, told: &List<Changed>) -> Result<List<Message>, NoMemory>
+    requires { tables.now.state.limits < 4294967295 }
+    ensures sent { IfOk result (λ sent. sent ≡ changed_to_guests (view_in tables.now.state).shares (tables.now.state.limits + 1) (map new_perms told.now)) }
+    ensures numbers { IfOk result (λ sent. HasNumbers tables.now.state sent) }
+{
+    let alloc = tables.allocator();
+    let told = all_new_perms(alloc, told.as_slice())?;
+    let serial = tables.limits() + 1;
+    let sent = changed_all(alloc, tables, serial, &told)?;
+    numbered(tables, sent)
+}
+
+/// What the guest of a share may do from now on.
+fn new_perms(changed: &Changed) -> NewPerms
+    ensures { result ≡ new_perms changed.now }
+{
+    NewPerms {
+        id: changed.id,
+        perms: changed.perms,
+    }
+}
+
+/// What the guests of these shares may do from now on, in the same order.
+fn all_new_perms(alloc: Global, changed: &[Changed]) -> Result<Vec<NewPerms>, NoMemory>
+    ensures { IfOk result (λ all. all.items ≡ map new_perms changed.now) }
+{
+    let mut all = Vec::new(alloc);
+    for one in changed {
+        all.push(new_perms(one))?;
+    }
+    Ok(all)
+}
+
+/// Whether an address is of this very host.
+fn is_own_host(tables: &Tables, with: &Address) -> bool
+    ensures { result ≡ same_text with.now.host tables.now.state.host }
+{
+    with.host == *tables.host()
+}
+
+/// A new share, by the user of this number, who has this key.
+pub fn plan_new_share(
+    tables: &Tables,
+    key: &Secret,
+    user: u32,
+    path: &Path,
+    with: &Address,
+    perms: Perms,
+    fresh: &Fresh,
+) -> Result<Planned, NoMemory>
+    requires short { IsTrue (is_short path.now) }
+    requires user { user_of_key tables.now.state.users key.now ≡ Some user }
+    ensures { IfOk result (λ plan. Plans tables.now.state (asks.Local key.now (commands.Share path.now with.now perms fresh.now)) plan) }
+{
+    if is_own_host(tables, with) {
+        let field = AddressField::ShareWith;
+        return Ok(Planned::refused(tables, Why::OwnHost { field }));
+    }
+    if !stands(tables, user, path)? {
+        return Ok(Planned::refused(tables, Why::NotFound));
+    }
+    if is_full(tables.share_count(), MOST_SHARES) {
+        let which = Which::Shares;
+        return Ok(Planned::refused(tables, Why::Limit { which }));
+    }
+    let secret = fresh.secret(tables.allocator())?;
+    if tables.is_used(&secret) {
+        return Ok(Planned::refused(tables, Why::Collision));
+    }
+    let owner = user_name(tables, key, user);
+    let share = own_share(tables.host(), user, owner, path, with, perms, secret)?;
+    let (share, sent) = plan_offered(tables, owner, share)?;
+    let number = tables.share_count() + 1;
+    let change = Change::AddShare(share);
+    Ok(Planned::new(tables, Reply::Number { number }, change, sent))
+}
+
+/// A new share of an owner of this name, and the message that offers it to its guest.
+fn plan_offered(
+    tables: &Tables,
+    owner: &Name,
+    share: Share,
+) -> Result<(PlannedShare, List<Message>), NoMemory>
+    requires { length tables.now.state.shares < 65536 }
+    ensures share { IfOk result (λ made. made.0 ≡ share) }
+    ensures sent { IfOk result (λ made. made.1 ≡ offered_from tables.now.state.host owner.now (length tables.now.state.shares + 1) share ∷ []) }
+    ensures numbers { IfOk result (λ made. HasNumbers tables.now.state made.1) }
+{
+    let id = tables.share_count() + 1;
+    let offer = offered(tables.allocator(), tables.host(), owner, id, &share)?;
+    let sent = one_message(tables, offer)?;
+    let share = plan_share(share)?;
+    Ok((share, sent))
+}

@@ -1,0 +1,19 @@
+use Rattle.std.proofs.Common.{Some, sym, ◌∙◌}
+use Rattle.ocm_rules.specs.State.{view_in}
+use Rattle.ocm_plan_peers.proofs.NamedShares.{shared-none, shared-some}
+use Rattle.ocm_plan_peers.proofs.Answering.{child-before, request-by, request-unknown}
+use Rattle.ocm_plan_peers.proofs.requests.plan_request.Goals as goal
+
+pub returns-in_default : goal.returns-in_default
+returns-in_default c =
+    let v = view_in c.args.tables.now.state in
+    let none = shared-none v c.args.id.now c.args.secret.now (sym c.in_default.is ∙ c.share_with.ensures) in
+    c.refused.ensures.plans _ (request-unknown v c.args.id.now c.args.secret.now c.args.with.now c.args.sender_id.now c.args.asked.now c.args.fresh.now none)
+
+pub returns-in-Some-child_for : goal.returns-in-Some-child_for
+returns-in-Some-child_for c =
+    let v = view_in c.args.tables.now.state in
+    let found = shared-some v c.args.id.now c.args.secret.now c.in-Some.parent (sym c.in-Some.is ∙ c.share_with.ensures) in
+    let child = sym c.child_for.ensures ∙ c.in-Some-child_for.is in
+    c.plan_repeated.ensures _ (request-by v c.args.id.now c.args.secret.now c.args.with.now c.args.sender_id.now c.args.asked.now c.args.fresh.now c.in-Some.parent found.0 (Some c.in-Some-child_for.child) found.1 child)
+    (child-before v c.in-Some.parent c.args.sender_id.now c.in-Some-child_for.child child)

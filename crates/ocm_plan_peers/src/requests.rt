@@ -1,0 +1,217 @@
+//! Requests of guests that a share be shared further (OCM API 1.1, `REQUEST_RESHARE`).
+ghost use Rattle.std.specs.Prelude.{◌≡◌, ◌<◌, ◌+◌, ◌∷◌, [], ◌&&◌, ℕ, IfErr, IfOk, IsSome, List, OnOk, false, if◌then◌else◌, length, option_copied, unwrap_or};
+ghost use Rattle.std.specs.Option.{option_map_or};
+ghost use Rattle.ocm_base.specs.Hex.{hex};
+ghost use Rattle.ocm_entry.specs.declared.asks.Ask.{Ask};
+ghost use Rattle.ocm_entry.specs.declared.asks.Ask.TheVariants as asks;
+ghost use Rattle.ocm_entry.specs.declared.refusals.Why.TheVariants.{Collision};
+ghost use Rattle.ocm_entry.specs.declared.rows.Share.{Share};
+ghost use Rattle.ocm_types.specs.declared.letters.Notice.TheVariants as notices;
+ghost use Rattle.ocm_rules.specs.Answers.{first_reply, may_share, refused, repeated_reply, reply_in};
+ghost use Rattle.ocm_rules.specs.Equal.{same_address, same_asked};
+ghost use Rattle.ocm_rules.specs.History.{changes_in};
+ghost use Rattle.ocm_rules.specs.Numbers.{at_number};
+ghost use Rattle.ocm_rules.specs.Shares.{is_used, named};
+ghost use Rattle.ocm_rules.specs.State.{view_in};
+ghost use Rattle.ocm_rules.specs.Views.{effective_in};
+ghost use Rattle.ocm_letters.specs.Letters.{offered_from};
+ghost use Rattle.ocm_tables.specs.Changes.{HasNumbers};
+ghost use Rattle.ocm_plan.specs.Plans.{Plans};
+
+use crate::reads::owner_of;
+use ocm_base::{List, NoMemory};
+use ocm_chain::{PlannedShare, plan_share};
+use ocm_entry::{AddressField, Reply, Share, Why};
+use ocm_letters::{child_share, offered};
+use ocm_plan::{Planned, is_full, one_message};
+use ocm_rules::Message;
+use ocm_tables::{Change, Tables};
+use ocm_types::{Address, Fresh, Name, Perms, ProviderId, Rights, Secret, SenderId, Which};
+
+/// The most shares of a server, ended ones too.
+const MOST_SHARES: u32 = 65_536;
+
+/// A guest asks that a share be shared further.
+pub fn plan_request(
+    tables: &Tables,
+    id: &ProviderId,
+    secret: &Secret,
+    with: &Address,
+    sender_id: &SenderId,
+    asked: &Option<Perms>,
+    fresh: &Fresh,
+) -> Result<Planned, NoMemory>
+    ensures { IfOk result (λ plan. Plans tables.now.state (asks.Notice (notices.ReshareRequest id.now secret.now with.now sender_id.now asked.now) fresh.now) plan) }
+{
+    let Some(parent) = tables.share_with(id, secret) else {
+        return Ok(Planned::refused(tables, Why::UnknownShare));
+    };
+    match tables.child_for(parent, sender_id) {
+        Some(child) => Ok(plan_repeated(tables, child, with, *asked)),
+        None => plan_first(tables, parent, with, sender_id, asked, fresh),
+    }
+}
+
+/// A request that was made before, where this child was made for it.
+fn plan_repeated(tables: &Tables, child: u32, with: &Address, asked: Option<Perms>) -> Planned
+    ensures { (ask : Ask) → reply_in (view_in tables.now.state) ask ≡ repeated_reply child (at_number (view_in tables.now.state).shares child) with.now asked
+        → changes_in (view_in tables.now.state) ask (Reply.Child child) ≡ false → Plans tables.now.state ask result }
+{
+    if is_same_request(tables.share(child), with, asked) {
+        Planned::only(tables, Reply::Child { id: child })
+    } else {
+        Planned::refused(tables, Why::SenderIdReused)
+    }
+}
+
+/// Whether this child was made for a request for the same guest and the same permissions.
+fn is_same_request(child: Option<&Share>, with: &Address, asked: Option<Perms>) -> bool
+    ensures { result ≡ option_map_or (λ (share : Share). same_address share.with with.now && same_asked share.asked asked) (option_copied child.entry) false }
+{
+    child.is_some_and(|share| share.with == *with && is_same_asked(share.asked, asked))
+}
+
+/// Whether the same was asked: the same permissions, or none both times.
+fn is_same_asked(before: Option<Perms>, now: Option<Perms>) -> bool
+    ensures { result ≡ same_asked before now }
+{
+    match (before, now) {
+        (Some(before), Some(now)) => before.within(now.rights()) && now.within(before.rights()),
+        (None, None) => true,
+        _ => false,
+    }
+}
+
+/// What a child grants, where the parent's rights allow it: the permissions that were asked for, or
+/// where none were the parent's rights.
+fn granted_within(rights: Rights, asked: &Option<Perms>) -> Option<Perms>
+    ensures { result ≡ (if may_share rights asked.now then Some (unwrap_or asked.now rights) else None) }
+{
+    if !rights.share {
+        return None;
+    }
+    match asked {
+        Some(perms) if perms.within(rights) => Some(*perms),
+        Some(_) => None,
+        None => Perms::of(rights),
+    }
+}
+
+/// A request that is made for the first time, by the guest of the share of this number.
+fn plan_first(
+    tables: &Tables,
+    parent: u32,
+    with: &Address,
+    sender_id: &SenderId,
+    asked: &Option<Perms>,
+    fresh: &Fresh,
+) -> Result<Planned, NoMemory>
+    requires { IsSome (at_number (view_in tables.now.state).shares parent) }
+    ensures { (id mark : List ℕ) → let ask : Ask = asks.Notice (notices.ReshareRequest id mark with.now sender_id.now asked.now) fresh.now in
+        named id ≡ Some parent → reply_in (view_in tables.now.state) ask ≡ first_reply (view_in tables.now.state) parent with.now asked.now (hex fresh.now)
+        → IfOk result (λ plan. Plans tables.now.state ask plan) }
+{
+    match granted_to(tables, parent, with, asked) {
+        Ok(granted) => plan_granted(tables, parent, &granted, with, sender_id, asked, fresh),
+        Err(why) => Ok(Planned::refused(tables, why)),
+    }
+}
+
+/// What a child of the share of this number grants to this guest, or what stands against the child,
+/// whatever is drawn for it.
+fn granted_to(
+    tables: &Tables,
+    parent: u32,
+    with: &Address,
+    asked: &Option<Perms>,
+) -> Result<Perms, Why>
+    requires { IsSome (at_number (view_in tables.now.state).shares parent) }
+    ensures refused { IfErr result (λ why. (secret : List ℕ) → refused why ≡ first_reply (view_in tables.now.state) parent with.now asked.now secret) }
+    ensures granted { IfOk result (λ granted. granted ≡ unwrap_or asked.now (effective_in (view_in tables.now.state) parent)) }
+    ensures few { OnOk result (length tables.now.state.shares < 65536) }
+    ensures free { OnOk result ((secret : List ℕ) → (if is_used tables.now.state.users (view_in tables.now.state).shares secret then refused Collision else Reply.Child (length tables.now.state.shares + 1))
+        ≡ first_reply (view_in tables.now.state) parent with.now asked.now secret) }
+{
+    if !tables.is_live(parent) {
+        return Err(Why::ShareClosed);
+    }
+    let Some(granted) = granted_within(tables.effective(parent), asked) else {
+        return Err(Why::NotPermitted);
+    };
+    if with.host == *tables.host() {
+        let field = AddressField::ShareWith;
+        return Err(Why::OwnHost { field });
+    }
+    if is_full(tables.share_count(), MOST_SHARES) {
+        let which = Which::Shares;
+        return Err(Why::Limit { which });
+    }
+    Ok(granted)
+}
+
+/// A child of the share of this number that grants this, where the drawn bytes spell a new secret.
+fn plan_granted(
+    tables: &Tables,
+    parent: u32,
+    granted: &Perms,
+    with: &Address,
+    sender_id: &SenderId,
+    asked: &Option<Perms>,
+    fresh: &Fresh,
+) -> Result<Planned, NoMemory>
+    requires parent { IsSome (at_number (view_in tables.now.state).shares parent) }
+    requires few { length tables.now.state.shares < 65536 }
+    ensures { (id mark : List ℕ) → let ask : Ask = asks.Notice (notices.ReshareRequest id mark with.now sender_id.now asked.now) fresh.now in
+        named id ≡ Some parent → granted.now ≡ unwrap_or asked.now (effective_in (view_in tables.now.state) parent)
+        → reply_in (view_in tables.now.state) ask ≡ (if is_used tables.now.state.users (view_in tables.now.state).shares (hex fresh.now) then refused Collision else Reply.Child (length tables.now.state.shares + 1))
+        → IfOk result (λ plan. Plans tables.now.state ask plan) }
+{
+    let secret = fresh.secret(tables.allocator())?;
+    if tables.is_used(&secret) {
+        return Ok(Planned::refused(tables, Why::Collision));
+    }
+    plan_child(tables, parent, granted, with, sender_id, *asked, secret)
+}
+
+/// A child of the share of this number, which nothing stands against.
+fn plan_child(
+    tables: &Tables,
+    parent: u32,
+    granted: &Perms,
+    with: &Address,
+    sender_id: &SenderId,
+    asked: Option<Perms>,
+    secret: Secret,
+) -> Result<Planned, NoMemory>
+    requires parent { IsSome (at_number (view_in tables.now.state).shares parent) }
+    requires few { length tables.now.state.shares < 65536 }
+    requires secret { is_used tables.now.state.users (view_in tables.now.state).shares secret ≡ false }
+    ensures { (id mark fresh : List ℕ) → let ask : Ask = asks.Notice (notices.ReshareRequest id mark with.now sender_id.now asked) fresh in
+        named id ≡ Some parent → secret ≡ hex fresh → granted.now ≡ unwrap_or asked (effective_in (view_in tables.now.state) parent)
+        → reply_in (view_in tables.now.state) ask ≡ Reply.Child (length tables.now.state.shares + 1) → IfOk result (λ plan. Plans tables.now.state ask plan) }
+{
+    let above = tables.share(parent).unwrap();
+    let owner = owner_of(tables, above)?;
+    let share = child_share(parent, above, *granted, with, sender_id, asked, secret)?;
+    let (share, sent) = offered_share(tables, &owner.name, share)?;
+    let id = tables.share_count() + 1;
+    Ok(Planned::new(tables, Reply::Child { id }, Change::AddShare(share), sent))
+}
+
+/// A new share, whose owner has this name, with the message that offers it.
+fn offered_share(
+    tables: &Tables,
+    owner: &Name,
+    share: Share,
+) -> Result<(PlannedShare, List<Message>), NoMemory>
+    requires { length tables.now.state.shares < 65536 }
+    ensures share { IfOk result (λ made. made.0 ≡ share) }
+    ensures sent { IfOk result (λ made. made.1 ≡ offered_from tables.now.state.host owner.now (length tables.now.state.shares + 1) share ∷ []) }
+    ensures numbers { IfOk result (λ made. HasNumbers tables.now.state made.1) }
+{
+    let id = tables.share_count() + 1;
+    let offer = offered(tables.allocator(), tables.host(), owner, id, &share)?;
+    let sent = one_message(tables, offer)?;
+    let share = plan_share(share)?;
+    Ok((share, sent))
+}

@@ -1,5 +1,0 @@
-use Rattle.ocm_repeats.proofs.Alone.{changed-alone}
-use Rattle.ocm_repeats.proofs.a_changed_acts_on_later_records_alone.Goals as goal
-
-pub returns : goal.returns
-returns c = λ host g id secret serial perms fresh legal. changed-alone host g id secret serial perms fresh legal

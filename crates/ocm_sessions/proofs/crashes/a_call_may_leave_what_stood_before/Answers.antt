@@ -1,5 +1,0 @@
-use Rattle.ocm_sessions.proofs.Surviving.{next-in_flight}
-use Rattle.ocm_sessions.proofs.crashes.a_call_may_leave_what_stood_before.Goals as goal
-
-pub returns : goal.returns
-returns c = next-in_flight

@@ -1,5 +1,0 @@
-use Rattle.ocm_sessions.proofs.Rereading.{lean-opens}
-use Rattle.ocm_sessions.proofs.records.a_lean_list_is_written_and_read.Goals as goal
-
-pub returns : goal.returns
-returns c = lean-opens

@@ -1,5 +1,0 @@
-use Rattle.ocm_sessions.proofs.Opening.{opened-more}
-use Rattle.ocm_sessions.proofs.records.a_record_goes_on.Goals as goal
-
-pub returns : goal.returns
-returns c = opened-more

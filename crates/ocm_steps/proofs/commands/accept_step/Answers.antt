@@ -1,5 +1,0 @@
-use Rattle.ocm_steps.proofs.CommandSteps.{accept_command-step}
-use Rattle.ocm_steps.proofs.commands.accept_step.Goals as goal
-
-pub returns : goal.returns
-returns c = accept_command-step

@@ -1,5 +1,0 @@
-use Rattle.ocm_steps.proofs.CommandSteps.{decline_command-step}
-use Rattle.ocm_steps.proofs.commands.decline_step.Goals as goal
-
-pub returns : goal.returns
-returns c = decline_command-step

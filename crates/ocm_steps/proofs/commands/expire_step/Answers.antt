@@ -1,5 +1,0 @@
-use Rattle.ocm_steps.proofs.CommandSteps.{expire_command-step}
-use Rattle.ocm_steps.proofs.commands.expire_step.Goals as goal
-
-pub returns : goal.returns
-returns c = expire_command-step

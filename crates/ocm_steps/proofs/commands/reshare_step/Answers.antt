@@ -1,5 +1,0 @@
-use Rattle.ocm_steps.proofs.CommandSteps.{reshare_command-step}
-use Rattle.ocm_steps.proofs.commands.reshare_step.Goals as goal
-
-pub returns : goal.returns
-returns c = reshare_command-step

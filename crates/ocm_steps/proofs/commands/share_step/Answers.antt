@@ -1,5 +1,0 @@
-use Rattle.ocm_steps.proofs.CommandSteps.{share-step}
-use Rattle.ocm_steps.proofs.commands.share_step.Goals as goal
-
-pub returns : goal.returns
-returns c = share-step

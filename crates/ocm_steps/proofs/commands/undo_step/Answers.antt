@@ -1,5 +1,0 @@
-use Rattle.ocm_steps.proofs.CommandSteps.{undo_command-step}
-use Rattle.ocm_steps.proofs.commands.undo_step.Goals as goal
-
-pub returns : goal.returns
-returns c = undo_command-step

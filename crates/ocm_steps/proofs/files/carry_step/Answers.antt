@@ -1,5 +1,0 @@
-use Rattle.ocm_steps.proofs.FileSteps.{carry-step}
-use Rattle.ocm_steps.proofs.files.carry_step.Goals as goal
-
-pub returns : goal.returns
-returns c = carry-step

@@ -1,5 +1,0 @@
-use Rattle.ocm_steps.proofs.NoticeSteps.{child-step}
-use Rattle.ocm_steps.proofs.notices.child_step.Goals as goal
-
-pub returns : goal.returns
-returns c = child-step

@@ -1,5 +1,0 @@
-use Rattle.ocm_steps.proofs.NoticeSteps.{declined-step}
-use Rattle.ocm_steps.proofs.notices.declined_step.Goals as goal
-
-pub returns : goal.returns
-returns c = declined-step

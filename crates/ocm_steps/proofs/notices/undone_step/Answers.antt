@@ -1,5 +1,0 @@
-use Rattle.ocm_steps.proofs.NoticeSteps.{undone-step}
-use Rattle.ocm_steps.proofs.notices.undone_step.Goals as goal
-
-pub returns : goal.returns
-returns c = undone-step

@@ -1,5 +1,0 @@
-use Rattle.ocm_steps.proofs.OtherSteps.{user-step}
-use Rattle.ocm_steps.proofs.others.user_step.Goals as goal
-
-pub returns : goal.returns
-returns c = user-step
