@@ -5,9 +5,9 @@ use Rattle.std.proofs.lemmas.List.{length-drop, take_all}
 use Rattle.std.specs.Result.{result_ok}
 use Rattle.ocm_base.specs.declared.failures.NoMemory.{NoMemory}
 use Rattle.ocm_entry.specs.declared.asks.Ask.{Ask}
-use Rattle.ocm_entry.specs.declared.entry_faults.EntryFault.{EntryFault}
-use Rattle.ocm_entry.specs.declared.entry_faults.EntryFault.TheVariants as faults
-use Rattle.ocm_entry.specs.Reading.{Fails, ask_of}
+use Rattle.ocm_spelling.specs.declared.entry_faults.EntryFault.{EntryFault}
+use Rattle.ocm_spelling.specs.declared.entry_faults.EntryFault.TheVariants as faults
+use Rattle.ocm_spelling.specs.Reading.{Fails, ask_of}
 use Rattle.ocm_audit.specs.Stamps.{moment_in, said_in_second, spelled, timed}
 use Rattle.ocm_audit.specs.declared.stamps.Stamped.{Stamped}
 

@@ -4,7 +4,7 @@ use Rattle.std.specs.Int.{w64, from_be_bytes}
 use Rattle.std.specs.Result.{result_ok}
 use Rattle.ocm_entry.specs.declared.asks.Ask.{Ask}
 use Rattle.ocm_entry.specs.declared.asks.Ask.TheVariants as asks
-use Rattle.ocm_entry.specs.Reading.{ask_of}
+use Rattle.ocm_spelling.specs.Reading.{ask_of}
 use Rattle.ocm_image.specs.declared.readings.RawRecord.{RawRecord}
 use Rattle.ocm_audit.specs.declared.stamps.Stamped.{Stamped}
 use Rattle.ocm_audit.specs.declared.stamps.Stamped.TheVariants as stamps

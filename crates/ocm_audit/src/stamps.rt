@@ -2,7 +2,8 @@ ghost use Rattle.std.specs.Prelude.{◌≡◌, ◌≢◌, ◌≤◌, ◌<◌, le
 ghost use Rattle.ocm_audit.specs.Stamps.{kind_of, is_tick, kind_of_ask, moment_behind, moment_in, moment_past, said_in_second, spelled, stamped_of, timed};
 
 use ocm_base::NoMemory;
-use ocm_entry::{Ask, EntryFault};
+use ocm_entry::Ask;
+use ocm_spelling::{EntryFault, decode};
 use std::alloc::Global;
 
 /// What a record of a journal says.
@@ -135,7 +136,7 @@ fn is_tick(ask: &Ask) -> bool
 fn spelled(alloc: Global, bytes: &[u8]) -> Result<Option<Ask>, NoMemory>
     ensures { IfOk result (λ ask. ask ≡ spelled bytes.now) }
 {
-    match Ask::decode(alloc, bytes) {
+    match decode(alloc, bytes) {
         Ok(ask) => Ok(Some(ask)),
         Err(fault) => no_ask(fault),
     }

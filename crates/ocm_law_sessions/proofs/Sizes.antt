@@ -4,8 +4,8 @@ use Rattle.std.specs.Prelude.{if◌then◌else◌}
 use Rattle.std.proofs.lemmas.List.{length-append}
 use Rattle.ocm_entry.specs.declared.asks.Ask.{Ask}
 use Rattle.ocm_entry.specs.declared.entries.Entry.{Entry}
-use Rattle.ocm_entry.specs.Spells.{eight_bytes, spelling, Fits}
-use Rattle.ocm_entry.proofs.Lengths.{spelled_len}
+use Rattle.ocm_spelling.specs.Spells.{eight_bytes, spelling, Fits}
+use Rattle.ocm_spelling.proofs.Lengths.{spelled_len}
 use Rattle.ocm_image.specs.Layout.{AreRecords, blocks_size}
 use Rattle.ocm_rules.specs.Shares.{moment}
 use Rattle.ocm_rules.specs.Lean.{is_tick}

@@ -8,11 +8,11 @@ use Rattle.ocm_entry.specs.declared.asks.Ask.{Ask}
 use Rattle.ocm_entry.specs.declared.asks.Ask.TheVariants as asks
 use Rattle.ocm_entry.specs.declared.asks.Method.TheVariants as methods
 use Rattle.ocm_entry.specs.declared.entries.Entry.{Entry}
-use Rattle.ocm_entry.specs.declared.entry_faults.EntryFault.{EntryFault}
-use Rattle.ocm_entry.specs.Reading.{ask_of}
-use Rattle.ocm_entry.specs.Spells.{Fits, AreBytes}
-use Rattle.ocm_entry.proofs.FieldLaws.{AreBytes-front, AreBytes-rest, wide64}
-use Rattle.ocm_entry.proofs.Whole.{ask_of-spells}
+use Rattle.ocm_spelling.specs.declared.entry_faults.EntryFault.{EntryFault}
+use Rattle.ocm_spelling.specs.Reading.{ask_of}
+use Rattle.ocm_spelling.specs.Spells.{Fits, AreBytes}
+use Rattle.ocm_spelling.proofs.FieldLaws.{AreBytes-front, AreBytes-rest, wide64}
+use Rattle.ocm_spelling.proofs.Whole.{ask_of-spells}
 use Rattle.ocm_rules.specs.Shares.{clock_of, moment}
 use Rattle.ocm_rules.specs.Lean.{is_tick, without_body, still_stands, emptied_unless, emptied_among, without_passed_ticks, lean}
 use Rattle.ocm_rules.specs.History.{kept}

@@ -9,11 +9,11 @@ use Rattle.std.proofs.lemmas.Bool.Decides.{nat_tests}
 use Rattle.std.proofs.lemmas.List.{length-append, take_at, drop_at}
 use Rattle.std.proofs.lemmas.Nat.{from_be_bytes-to_be_bytes_8}
 use Rattle.ocm_entry.specs.declared.asks.Ask.{Ask}
-use Rattle.ocm_entry.specs.declared.entry_faults.EntryFault.{EntryFault}
+use Rattle.ocm_spelling.specs.declared.entry_faults.EntryFault.{EntryFault}
 use Rattle.ocm_entry.specs.declared.entries.Entry.{Entry}
-use Rattle.ocm_entry.specs.Spells.{eight_bytes, spelling, Fits}
-use Rattle.ocm_entry.proofs.Whole.{ask_of-spelling}
-use Rattle.ocm_entry.proofs.Lengths.{spelled_len}
+use Rattle.ocm_spelling.specs.Spells.{eight_bytes, spelling, Fits}
+use Rattle.ocm_spelling.proofs.Whole.{ask_of-spelling}
+use Rattle.ocm_spelling.proofs.Lengths.{spelled_len}
 use Rattle.ocm_rules.specs.Shares.{clock_of, moment}
 use Rattle.ocm_rules.specs.Lean.{is_tick}
 use Rattle.ocm_rules.specs.History.{answer_kept, changes}

@@ -1,5 +1,7 @@
 //! Callers of a turnstile.
 ghost use Rattle.std.specs.Prelude.{◌≡◌, ℕ, All, IfOk, IsTrue, ⊤};
+ghost use Rattle.ocm_entry.specs.Fitting.{Fits};
+ghost use Rattle.ocm_entry.specs.declared.asks.Ask as asks;
 ghost use Rattle.ocm_turn.specs.Passes.{BelongsTo};
 
 use ocm_base::List;
@@ -24,7 +26,9 @@ struct Users {
 }
 
 impl Users {
-    fn add(&mut self, name: Name, fresh: Fresh) -> Reply {
+    fn add(&mut self, name: Name, fresh: Fresh) -> Reply
+        ensures { (ask : asks.Ask) → Fits ask result }
+    {
         for row in self.rows.iter() {
             if row.0 == name {
                 return Reply::Refused {
@@ -41,7 +45,9 @@ impl Users {
         }
     }
 
-    fn list(&self, key: &Secret) -> Reply {
+    fn list(&self, key: &Secret) -> Reply
+        ensures { (ask : asks.Ask) → Fits ask result }
+    {
         for row in self.rows.iter() {
             if row.1 == *key {
                 return Reply::Listing {
@@ -62,13 +68,15 @@ impl Object for Users {
 
     ghost stands = { λ _ _ _. ⊤ };
 
-    ghost legal = { λ _ _ _. ⊤ };
+    ghost legal = { λ _ _ h. All (λ e. Fits e.ask e.reply) h };
+
+    ghost fits = { λ _ _ _ _ _ legal. legal.0 };
 
     fn act(&mut self, ask: Ask) -> Reply {
         match ask {
             Ask::AddUser { name, fresh } => self.add(name, fresh),
             Ask::Local { key, cmd: _ } => self.list(&key),
-            _ => Reply::Left,
+            _ => Reply::Done,
         }
     }
 }
@@ -86,7 +94,9 @@ impl Object for Log {
 
     ghost stands = { λ _ _ _. ⊤ };
 
-    ghost legal = { λ _ _ _. ⊤ };
+    ghost legal = { λ _ _ h. All (λ e. Fits e.ask e.reply) h };
+
+    ghost fits = { λ _ _ _ _ _ legal. legal.0 };
 
     fn act(&mut self, ask: Ask) -> Reply {
         let number = u32::try_from(self.clocks.len()).unwrap_or(u32::MAX);
@@ -95,7 +105,7 @@ impl Object for Log {
                 Ok(()) => Reply::Number { number },
                 Err(_) => Reply::NoMemory,
             },
-            _ => Reply::Left,
+            _ => Reply::Done,
         }
     }
 }

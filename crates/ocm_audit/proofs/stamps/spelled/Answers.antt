@@ -1,7 +1,7 @@
 use Rattle.std.proofs.Common.{sym, ap, Result}
 use Rattle.std.specs.Result.{result_ok}
 use Rattle.ocm_entry.specs.declared.asks.Ask.{Ask}
-use Rattle.ocm_entry.specs.declared.entry_faults.EntryFault.{EntryFault}
+use Rattle.ocm_spelling.specs.declared.entry_faults.EntryFault.{EntryFault}
 use Rattle.ocm_audit.proofs.Asks.{spelled-none}
 use Rattle.ocm_audit.specs.Stamps.{spelled}
 use Rattle.ocm_audit.proofs.stamps.spelled.Goals as goal
