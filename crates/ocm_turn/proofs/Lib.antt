@@ -9,3 +9,5 @@ pub mod JoinKeeps
 pub mod NameKeeps
 pub mod RingKeeps
 pub mod PassLemmas
+pub mod JoinedCalls
+pub mod MoveLemmas

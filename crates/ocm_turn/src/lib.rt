@@ -10,6 +10,7 @@
 #![tactic(auto)]
 
 mod board;
+pub mod laws;
 mod pass;
 mod rule;
 mod turnstile;

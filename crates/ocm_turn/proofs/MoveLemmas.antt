@@ -1,0 +1,67 @@
+-- One call of a pass after another.
+use Rattle.std.proofs.Common.{◌≡◌, ℕ, ◌≤◌, ◌<◌, ◌++◌, List, [], ◌∷◌, length, Result, Ok, Err, sym, refl, ap, ◌∙◌, append_assoc, length-append, arith, inl, inr}
+use Rattle.std.specs.Prelude.{IfOk, OnOk, map}
+use Rattle.std.proofs.lemmas.List.{map-append}
+use Rattle.ocm_entry.specs.declared.asks.Ask.{Ask}
+use Rattle.ocm_entry.specs.declared.replies.Reply.{Reply}
+use Rattle.ocm_entry.specs.declared.entries.Entry.{Entry}
+use Rattle.ocm_turn.specs.declared.turnstile.Spent.{Spent}
+use Rattle.ocm_turn.specs.declared.view.Call.{Call}
+use Rattle.ocm_turn.specs.Calls.{IsOlderPart, entry, call}
+use Rattle.ocm_turn.specs.Passes.{Known, SameGround}
+use Rattle.ocm_turn.specs.Moves.{Moved, Unspent}
+
+longer_by_none : (own mine : List Call) → mine ≡ own ++ mine → own ≡ []
+longer_by_none [] mine e = refl
+longer_by_none (c ∷ own) mine e = absurd (let n = ap length e ∙ length-append (c ∷ own) mine in omega (arith, n))
+
+module _ {Terms : Type 0} where
+  pub same_ground : (a : Known Terms) → SameGround a a
+  same_ground a = record { turnstile = refl; base = refl; terms = refl }
+
+  pub ground_then : (a b c : Known Terms) → SameGround a b → SameGround b c → SameGround a c
+  ground_then a b c p q = record {
+    turnstile = q.turnstile ∙ p.turnstile;
+    base = q.base ∙ p.base;
+    terms = q.terms ∙ p.terms;
+  }
+
+  pub moved_nothing : (a : Known Terms) → Moved a a []
+  moved_nothing a = record { ground = same_ground a; seen = ([], refl); mine = ([], refl, refl); drawn = omega arith }
+
+  pub moved_then : (a b c : Known Terms) (x y : List Entry) → Moved a b x → Moved b c y → Moved a c (y ++ x)
+  moved_then a b c x y p q = record {
+    ground = ground_then a b c p.ground q.ground;
+    seen = (q.seen.0 ++ p.seen.0, q.seen.1 ∙ (ap (λ (l : List Entry). q.seen.0 ++ l) p.seen.1 ∙ sym (append_assoc q.seen.0 p.seen.0 a.seen)));
+    mine = (
+      q.mine.0 ++ p.mine.0,
+      q.mine.1 ∙ (ap (λ (l : List Call). q.mine.0 ++ l) p.mine.1 ∙ sym (append_assoc q.mine.0 p.mine.0 a.mine)),
+      map-append (λ (c : Call). c.entry) q.mine.0 p.mine.0 ∙ λ i. q.mine.2 i ++ p.mine.2 i,
+    );
+    drawn = omega (arith, p.drawn, q.drawn);
+  }
+
+  pub unspent_nothing : (limit : ℕ) (a : Known Terms) → Unspent limit a a []
+  unspent_nothing limit a = inl (refl, refl)
+
+  pub unspent_then : (limit : ℕ) (a b c : Known Terms) (x y : List Entry) → Unspent limit a b x → Unspent limit b c y → Unspent limit a c (y ++ x)
+  unspent_then limit a b c x y p (inr h) = inr h
+  unspent_then limit a b c x y (inl g) (inl h) = inl ((λ i. h.0 i ++ g.0 i), h.1 ∙ g.1)
+  unspent_then limit a b c x y (inr g) (inl h) = inr (omega (arith, g, h.1))
+
+  -- a call of the turnstile
+  pub moved_call : (old new : Known Terms) (ask : Ask) (r : Result Reply Spent) → SameGround old new
+      → IfOk r (λ reply. (before : List Entry) × (new.seen ≡ entry ask reply ∷ before) × IsOlderPart old.seen before × (length before ≡ new.drawn))
+      → IfOk r (λ reply. new.mine ≡ call new.drawn (entry ask reply) ∷ old.mine) → old.drawn ≤ new.drawn
+      → IfOk r (λ reply. Moved old new (entry ask reply ∷ []))
+  moved_call old new ask (Ok reply) ground seen mine drawn = record {
+    ground = ground;
+    seen = (entry ask reply ∷ seen.2.0, seen.1 ∙ ap (λ (l : List Entry). entry ask reply ∷ l) seen.2.1);
+    mine = (call new.drawn (entry ask reply) ∷ [], mine, refl);
+    drawn = drawn;
+  }
+  moved_call old new ask (Err spent) ground seen mine drawn = tt
+
+  -- a pass that is the same made no calls
+  pub moved_same : (a : Known Terms) (calls : List Entry) → Moved a a calls → calls ≡ []
+  moved_same a calls moved = sym moved.mine.2 ∙ ap (map (λ (c : Call). c.entry)) (longer_by_none moved.mine.0 a.mine moved.mine.1)

@@ -1,0 +1,21 @@
+-- What a caller's pass goes through over several calls.
+use Rattle.std.specs.Prelude.{◌≡◌, ℕ, ◌<◌, ◌≤◌, ◌⊎◌, List, [], ◌++◌}
+use Rattle.ocm_entry.specs.declared.entries.Entry.{Entry}
+use Rattle.ocm_turn.specs.declared.view.Call.{Call}
+use Rattle.ocm_turn.specs.Calls.{IsOlderPart, entries}
+use Rattle.ocm_turn.specs.Passes.{Known, SameGround}
+
+-- a pass's own calls grew by these, the newest first
+abbrev pub Grows : {Terms : Type 0} → Known Terms → Known Terms → List Entry → Type 0
+Grows old new calls = (own : List Call) × (new.mine ≡ own ++ old.mine) × (entries own ≡ calls)
+
+-- a pass made these calls, the newest first: it has seen a longer history of the same turnstile
+pub record Moved {Terms : Type 0} (old new : Known Terms) (calls : List Entry) : Type 0 where
+  pub ground : SameGround old new
+  pub seen : IsOlderPart old.seen new.seen
+  pub mine : Grows old new calls
+  pub drawn : old.drawn ≤ new.drawn
+
+-- none of these calls was refused: none was made, or the last word that was drawn is below the limit
+abbrev pub Unspent : {Terms : Type 0} → ℕ → Known Terms → Known Terms → List Entry → Type 0
+Unspent limit old new calls = ((calls ≡ []) × (new.drawn ≡ old.drawn)) ⊎ (new.drawn < limit)
