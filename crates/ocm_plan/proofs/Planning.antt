@@ -11,9 +11,9 @@ use Rattle.ocm_rules.specs.History.{changes_in}
 use Rattle.ocm_rules.specs.State.{State, step, view_in}
 use Rattle.ocm_tables.specs.declared.changes.Change.{Change}
 use Rattle.ocm_tables.specs.declared.changes.Change.TheVariants as changes
-use Rattle.ocm_tables.specs.Changes.{Fits, HasNumbers, changed, is_kept, with_sent}
+use Rattle.ocm_tables.specs.Changes.{Fits, HasNumbers, changed, file_act, is_kept, with_sent}
 use Rattle.ocm_rules_steps.proofs.Refusals.{refused-entry}
-use Rattle.ocm_plan.specs.Plans.{Plans}
+use Rattle.ocm_plan.specs.Plans.{Plans, act_in}
 
 -- where nothing is sent the messages stay
 pub none-sent : (st : State) → with_sent st [] ≡ st
@@ -31,6 +31,7 @@ Plans-only st ask reply answered nothing few = record {
   kept = sym nothing;
   fits = tt;
   numbers = omega (arith, few);
+  files = λ kept. absurd (let never = kept in cc);
 }
 
 -- the plan of a refusal
@@ -42,14 +43,15 @@ made-changed st ask reply b e = rw e refl
 
 -- the plan of a reply that makes a change
 pub Plans-made : (st : State) (ask : Ask) (reply : Reply) (change : Change) (messages : List Message) → reply ≡ reply_in (view_in st) ask → changes_in (view_in st) ask reply ≡ true → is_kept change ≡ true
-    → changed st change messages ≡ step st ask reply → Fits st change → HasNumbers st messages
+    → changed st change messages ≡ step st ask reply → Fits st change → file_act change ≡ act_in (view_in st) ask → HasNumbers st messages
     → Plans st ask (record { reply = reply; change = change; sent = messages })
-Plans-made st ask reply change messages answered changing kept makes fits numbers = record {
+Plans-made st ask reply change messages answered changing kept makes fits acts numbers = record {
   reply = answered;
   change = makes ∙ made-changed st ask reply (changes_in (view_in st) ask reply) changing;
   kept = kept ∙ sym changing;
   fits = fits;
   numbers = numbers;
+  files = λ _. acts;
 }
 
 -- where one more does not pass the limit there are fewer

@@ -3,8 +3,8 @@ ghost use Rattle.ocm_entry.specs.declared.asks.Ask.{Ask};
 ghost use Rattle.ocm_rules.specs.Answers.{reply_in};
 ghost use Rattle.ocm_rules.specs.History.{changes_in};
 ghost use Rattle.ocm_rules.specs.State.{step, view_in};
-ghost use Rattle.ocm_tables.specs.Changes.{Fits, HasNumbers, changed, is_kept};
-ghost use Rattle.ocm_plan.specs.Plans.{Plans};
+ghost use Rattle.ocm_tables.specs.Changes.{Fits, HasNumbers, changed, file_act, is_kept};
+ghost use Rattle.ocm_plan.specs.Plans.{Plans, act_in};
 
 use ocm_base::List;
 use ocm_entry::{Reply, Why};
@@ -36,7 +36,7 @@ impl Planned {
         requires { HasNumbers tables.now.state sent }
         ensures plan { result ≡ record { reply = reply; change = change; sent = sent } }
         ensures plans { (ask : Ask) → reply ≡ reply_in (view_in tables.now.state) ask → changes_in (view_in tables.now.state) ask reply ≡ true → is_kept change ≡ true
-            → changed tables.now.state change sent ≡ step tables.now.state ask reply → Fits tables.now.state change → Plans tables.now.state ask result }
+            → changed tables.now.state change sent ≡ step tables.now.state ask reply → Fits tables.now.state change → file_act change ≡ act_in (view_in tables.now.state) ask → Plans tables.now.state ask result }
     {
         Planned {
             reply,
@@ -49,7 +49,7 @@ impl Planned {
     pub fn silent(tables: &Tables, reply: Reply, change: Change) -> Planned
         ensures plan { result ≡ record { reply = reply; change = change; sent = [] } }
         ensures plans { (ask : Ask) → reply ≡ reply_in (view_in tables.now.state) ask → changes_in (view_in tables.now.state) ask reply ≡ true → is_kept change ≡ true
-            → changed tables.now.state change [] ≡ step tables.now.state ask reply → Fits tables.now.state change → Plans tables.now.state ask result }
+            → changed tables.now.state change [] ≡ step tables.now.state ask reply → Fits tables.now.state change → file_act change ≡ act_in (view_in tables.now.state) ask → Plans tables.now.state ask result }
     {
         let _messages = tables.message_count();
         Planned {

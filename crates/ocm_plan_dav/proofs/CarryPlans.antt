@@ -22,13 +22,13 @@ use Rattle.ocm_rules.specs.Views.{View, grant_in}
 use Rattle.ocm_rules.proofs.Places.{above-from}
 use Rattle.ocm_tree.specs.Carries.{CarryLists}
 use Rattle.ocm_tables.specs.declared.changes.Change.TheVariants as changes
-use Rattle.ocm_tables.specs.Changes.{Fits, changed}
+use Rattle.ocm_tables.specs.Changes.{Fits, changed, file_act}
 use Rattle.ocm_rules_steps.proofs.FileSteps.{carry-step}
 use Rattle.ocm_rules_steps.proofs.Rows.{none-sent}
 use Rattle.ocm_plan.specs.Plans.{Plan}
 use Rattle.ocm_plan_dav.specs.Requests.{PlansCarry}
 use Rattle.ocm_plan_dav.proofs.Rows.{next}
-use Rattle.ocm_plan_dav.proofs.Methods.{PlansChange, PlansRefusal}
+use Rattle.ocm_plan_dav.proofs.Methods.{PlansChange, PlansRefusal, act-granted}
 
 -- ---- places
 
@@ -165,6 +165,11 @@ carry-changes : (v : View) (secret : List ℕ) (source target : Segments) (movin
 carry-changes v secret source target moving overwrite None = refl
 carry-changes v secret source target moving overwrite (Some standing) = refl
 
+-- what a copy or move does to files
+carried-acts : (st : State) (from to here there : Place) (moving : Bool) (carry : CarryLists) → carry ≡ carry_of st.nodes from to moving → from ≡ here → to ≡ there → file_act (changes.Carry carry) ≡ Some (Carried here there moving)
+carried-acts st from to here there moving carry is at_from at_to =
+    ap (λ (c : CarryLists). Some (Carried c.from c.to c.moving)) is ∙ ap (λ (p : Place). Some (Carried p to moving)) at_from ∙ ap (λ (p : Place). Some (Carried here p moving)) at_to
+
 -- the plan of a copy or move
 pub carries : (st : State) (from to : Place) (moving overwrite : Bool) (reply : Reply) (carry : CarryLists) (plan : Plan)
     → is_root from.path ≡ false → overlap from to ≡ false → is_collection ((view_in st).stands (parent_of to)) ≡ true → is_occupied (view_in st) to overwrite ≡ false → IsWithin (view_in st) from to moving (node_at st.nodes from)
@@ -180,3 +185,4 @@ carries st from to moving overwrite reply carry plan off apart inside free withi
     refl
     (carried st from to (below grant.root source) (below grant.root target) moving carry is at_from at_to ∙ sym (carry-step st secret source target moving overwrite reply grant granted))
     (carry-fits st from to moving carry is within)
+    (carried-acts st from to (below grant.root source) (below grant.root target) moving carry is at_from at_to ∙ sym (act-granted st secret (λ files. Carried (below files source) (below files target) moving) grant granted))

@@ -1,5 +1,5 @@
 use Rattle.std.proofs.Common.{◌≡◌, ℕ, List, [], true, false, refl, sym, ap, ◌∙◌, subst}
-use Rattle.std.specs.Prelude.{Option, Some, None, Result, IfOk}
+use Rattle.std.specs.Prelude.{Option, Some, None, Result, IfOk, option_map}
 use Rattle.ocm_path.specs.Paths.{Segments}
 use Rattle.ocm_entry.specs.declared.asks.Ask.{Ask}
 use Rattle.ocm_entry.specs.declared.asks.Ask.TheVariants as asks
@@ -15,17 +15,17 @@ use Rattle.ocm_entry.specs.declared.rows.Place.{Place}
 use Rattle.ocm_entry.specs.declared.rows.Standing.{Standing}
 use Rattle.ocm_entry.specs.declared.rows.Standing.TheVariants.{Collection, File}
 use Rattle.ocm_rules.specs.Answers.{dav_reply, method_reply, put_done, refused, reply_in}
-use Rattle.ocm_rules.specs.Files.{Gone, Placed, below, nodes_after, with_node}
-use Rattle.ocm_rules.specs.Holders.{permits}
+use Rattle.ocm_rules.specs.Files.{Act, Gone, Placed, below, nodes_after, with_node}
+use Rattle.ocm_rules.specs.Holders.{permits, root_among}
 use Rattle.ocm_rules.specs.History.{changes_in}
 use Rattle.ocm_rules.specs.State.{State, step, view_in}
 use Rattle.ocm_rules.specs.Views.{View, grant_in}
 use Rattle.ocm_tables.specs.declared.changes.Change.{Change}
 use Rattle.ocm_tables.specs.declared.changes.Change.TheVariants as changes
-use Rattle.ocm_tables.specs.Changes.{Fits, changed, is_kept}
-use Rattle.ocm_rules_steps.proofs.FileSteps.{put-step, mkcol-step, delete-step}
+use Rattle.ocm_tables.specs.Changes.{Fits, changed, file_act, is_kept}
+use Rattle.ocm_rules_steps.proofs.FileSteps.{put-step, mkcol-step, delete-step, root-granted}
 use Rattle.ocm_rules_steps.proofs.Rows.{none-sent}
-use Rattle.ocm_plan.specs.Plans.{Plan, Plans}
+use Rattle.ocm_plan.specs.Plans.{Plan, Plans, act_in}
 use Rattle.ocm_plan_dav.specs.Requests.{PlansMethod}
 use Rattle.ocm_plan_dav.proofs.Rows.{first, if_ok-each}
 
@@ -46,7 +46,7 @@ PlansReply st reply plan = (ask : Ask) → reply ≡ reply_in (view_in st) ask �
 
 abbrev pub PlansChange : State → Reply → Change → Plan → Type 0
 PlansChange st reply change plan =
-    (ask : Ask) → reply ≡ reply_in (view_in st) ask → changes_in (view_in st) ask reply ≡ true → is_kept change ≡ true → changed st change [] ≡ step st ask reply → Fits st change → Plans st ask plan
+    (ask : Ask) → reply ≡ reply_in (view_in st) ask → changes_in (view_in st) ask reply ≡ true → is_kept change ≡ true → changed st change [] ≡ step st ask reply → Fits st change → file_act change ≡ act_in (view_in st) ask → Plans st ask plan
 
 -- the plan of a refusal
 pub refuses : (st : State) (method : Method) (place : Place) (path : Segments) (body : List ℕ) (why : Why) (plan : Plan) → refused why ≡ method_reply (view_in st) method place path body
@@ -67,11 +67,20 @@ makes : (st : State) (method : Method) (place : Place) (path : Segments) (body :
     → is_kept change ≡ true
     → ((secret : List ℕ) (grant : Grant) → grant_in (view_in st) secret ≡ Some grant → place ≡ below grant.root path → changed st change [] ≡ step st (asks.Dav secret method path body) reply)
     → Fits st change
+    → ((secret : List ℕ) (grant : Grant) → grant_in (view_in st) secret ≡ Some grant → place ≡ below grant.root path → file_act change ≡ act_in (view_in st) (asks.Dav secret method path body))
     → PlansChange st reply change plan → PlansMethod st method place path body plan
-makes st method place path body reply change plan answered writes kept steps fits plans =
-    λ secret grant granted may at. plans (asks.Dav secret method path body) (answered ∙ method-answered (view_in st) secret method path body grant place granted may at) (writes secret) kept (steps secret grant granted at) fits
+makes st method place path body reply change plan answered writes kept steps fits acts plans =
+    λ secret grant granted may at. plans (asks.Dav secret method path body) (answered ∙ method-answered (view_in st) secret method path body grant place granted may at) (writes secret) kept (steps secret grant granted at) fits (acts secret grant granted at)
 
 -- ---- changes
+
+-- what an ask about files does, once the root of what is granted is known
+pub act-granted : (st : State) (secret : List ℕ) (act : Place → Act) (grant : Grant) → grant_in (view_in st) secret ≡ Some grant → option_map act (root_among st.users (view_in st).shares secret) ≡ Some (act grant.root)
+act-granted st secret act grant granted = ap (option_map act) (root-granted st secret grant granted)
+
+-- what is done to files where a node is put
+placed-acts : (node : Node) (place there : Place) (standing : Standing) → (let n : Node = record { place = place; standing = standing } in node ≡ n) → place ≡ there → file_act (changes.Put node) ≡ Some (Placed there standing)
+placed-acts node place there standing is at = ap (λ (n : Node). Some (Placed n.place n.standing)) is ∙ ap (λ (p : Place). Some (Placed p standing)) at
 
 -- a node that is put
 placed : (st : State) (node : Node) (place there : Place) (standing : Standing) → (let n : Node = record { place = place; standing = standing } in node ≡ n) → place ≡ there
@@ -93,7 +102,8 @@ pub puts : (st : State) (place : Place) (path : Segments) (body : List ℕ) (her
 puts st place path body here reply node plan done answered is fits plans =
     makes st methods.Put place path body reply (changes.Put node) plan (done ∙ answered)
     (λ secret. ap (changes_in (view_in st) (asks.Dav secret methods.Put path body)) done ∙ put-writes (view_in st) secret path body here) refl
-    (λ secret grant granted at. placed st node place (below grant.root path) (File body) is at ∙ sym (put-step st secret path body reply grant granted)) fits plans
+    (λ secret grant granted at. placed st node place (below grant.root path) (File body) is at ∙ sym (put-step st secret path body reply grant granted)) fits
+    (λ secret grant granted at. placed-acts node place (below grant.root path) (File body) is at ∙ sym (act-granted st secret (λ files. Placed (below files path) (File body)) grant granted)) plans
 
 -- the plan of a collection that is made
 pub creates : (st : State) (place : Place) (path : Segments) (body : List ℕ) (node : Node) (plan : Plan) → replies.Created ≡ method_reply (view_in st) methods.Mkcol place path body
@@ -101,7 +111,8 @@ pub creates : (st : State) (place : Place) (path : Segments) (body : List ℕ) (
     → PlansChange st replies.Created (changes.Put node) plan → PlansMethod st methods.Mkcol place path body plan
 creates st place path body node plan answered is fits plans =
     makes st methods.Mkcol place path body replies.Created (changes.Put node) plan answered (λ secret. refl) refl
-    (λ secret grant granted at. placed st node place (below grant.root path) Collection is at ∙ sym (mkcol-step st secret path body replies.Created grant granted)) fits plans
+    (λ secret grant granted at. placed st node place (below grant.root path) Collection is at ∙ sym (mkcol-step st secret path body replies.Created grant granted)) fits
+    (λ secret grant granted at. placed-acts node place (below grant.root path) Collection is at ∙ sym (act-granted st secret (λ files. Placed (below files path) Collection) grant granted)) plans
 
 -- a place that is cleared
 gone : (st : State) (place there : Place) → place ≡ there
@@ -115,7 +126,8 @@ pub removes : (st : State) (place : Place) (path : Segments) (body : List ℕ) (
     → PlansChange st replies.Removed (changes.Remove place) plan → PlansMethod st methods.Delete place path body plan
 removes st place path body plan answered plans =
     makes st methods.Delete place path body replies.Removed (changes.Remove place) plan answered (λ secret. refl) refl
-    (λ secret grant granted at. gone st place (below grant.root path) at ∙ sym (delete-step st secret path body replies.Removed grant granted)) tt plans
+    (λ secret grant granted at. gone st place (below grant.root path) at ∙ sym (delete-step st secret path body replies.Removed grant granted)) tt
+    (λ secret grant granted at. ap (λ (p : Place). Some (Gone p)) at ∙ sym (act-granted st secret (λ files. Gone (below files path)) grant granted)) plans
 
 -- the plans that are known for a method, at a method that is this one
 pub for_method : {F : Type 0} (st : State) (method known : Method) (place : Place) (path : Segments) (body : List ℕ) (r : Result Plan F) (P : Plan → Type 0) → method ≡ known

@@ -28,7 +28,7 @@ pub fn plan_notice(tables: &Tables, notice: &Notice, fresh: &Fresh) -> Result<Pl
             owner,
             with,
             perms,
-        } => plan_accepted(tables, id, secret, owner.as_ref(), with.as_ref(), *perms),
+        } => Ok(plan_accepted(tables, id, secret, owner.as_ref(), with.as_ref(), *perms)),
         Notice::Declined { id, secret } => plan_declined(tables, id, secret),
         Notice::ReshareRequest {
             id,
@@ -56,21 +56,21 @@ fn plan_accepted(
     owner: Option<&Address>,
     with: Option<&Address>,
     perms: Option<Perms>,
-) -> Result<Planned, NoMemory>
-    ensures { (fresh : List ℕ) → IfOk result (λ plan. Plans tables.now.state (asks.Notice (notices.Accepted id.now secret.now (option_copied owner.entry) (option_copied with.entry) perms) fresh) plan) }
+) -> Planned
+    ensures { (fresh : List ℕ) → Plans tables.now.state (asks.Notice (notices.Accepted id.now secret.now (option_copied owner.entry) (option_copied with.entry) perms) fresh) result }
 {
     let Some(number) = tables.share_with(id, secret) else {
-        return Ok(Planned::refused(tables, Why::UnknownShare));
+        return Planned::refused(tables, Why::UnknownShare);
     };
     if !tables.is_live(number) {
-        return Ok(Planned::refused(tables, Why::ShareClosed));
+        return Planned::refused(tables, Why::ShareClosed);
     }
     let share = tables.share(number).unwrap();
-    let user = owner_of(tables, share)?;
+    let user = owner_of(tables, share);
     if !is_as_offered(tables.host(), &user.name, share, owner, with, perms) {
-        return Ok(Planned::refused(tables, Why::NotPermitted));
+        return Planned::refused(tables, Why::NotPermitted);
     }
-    Ok(Planned::only(tables, Reply::Noticed))
+    Planned::only(tables, Reply::Noticed)
 }
 
 /// Whether what a guest tells of a share of this host, whose owner has this name, is what was offered,

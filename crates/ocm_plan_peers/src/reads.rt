@@ -1,5 +1,5 @@
 //! What plans read of the tables, beyond what these offer.
-ghost use Rattle.std.specs.Prelude.{◌≡◌, IfOk, filter, nat_lt, option_and_then, option_copied};
+ghost use Rattle.std.specs.Prelude.{◌≡◌, IfOk, IsSome, Some, filter, nat_lt, option_and_then, option_copied};
 ghost use Rattle.ocm_rules.specs.Numbers.{at_number};
 ghost use Rattle.ocm_rules.specs.Shares.{named};
 ghost use Rattle.ocm_rules.specs.Answers.{is_child_of, parent_row};
@@ -31,14 +31,12 @@ fn parent_of_named<'a>(tables: &'a Tables, id: &ProviderId) -> Option<&'a Share>
     tables.share(parent)
 }
 
-/// The user whose share this is. Each share has one; were there none, this would be want of memory.
-pub fn owner_of<'a>(tables: &'a Tables, share: &Share) -> Result<&'a User, NoMemory>
-    ensures { IfOk result (λ user. at_number tables.now.state.users share.now.owner ≡ Some user.now) }
+/// The user whose share this is.
+pub fn owner_of<'a>(tables: &'a Tables, share: &Share) -> &'a User
+    requires { IsSome (at_number tables.now.state.users share.now.owner) }
+    ensures { at_number tables.now.state.users share.now.owner ≡ Some result.now }
 {
-    match tables.user(share.owner) {
-        Some(user) => Ok(user),
-        None => Err(NoMemory),
-    }
+    tables.user(share.owner).unwrap()
 }
 
 /// These numbers in the same order, but for this one.

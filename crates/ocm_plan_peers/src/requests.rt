@@ -191,7 +191,7 @@ fn plan_child(
         → reply_in (view_in tables.now.state) ask ≡ Reply.Child (length tables.now.state.shares + 1) → IfOk result (λ plan. Plans tables.now.state ask plan) }
 {
     let above = tables.share(parent).unwrap();
-    let owner = owner_of(tables, above)?;
+    let owner = owner_of(tables, above);
     let share = child_share(parent, above, *granted, with, sender_id, asked, secret)?;
     let (share, sent) = offered_share(tables, &owner.name, share)?;
     let id = tables.share_count() + 1;

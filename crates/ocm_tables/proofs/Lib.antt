@@ -4,3 +4,4 @@ pub mod Owned
 pub mod Received
 pub mod Tellings
 pub mod Sending
+pub mod Counted

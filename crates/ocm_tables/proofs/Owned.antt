@@ -1,4 +1,4 @@
-use Rattle.std.proofs.Common.{◌≡◌, ℕ, zero, suc, ◌+◌, List, [], ◌∷◌, ◌++◌, Bool, true, false, ◌&&◌, Option, Some, None, refl, sym, ◌∙◌, subst, is_some, nat_eq, if◌then◌else◌, slice_get, map, IfSome, IsTrue, Bor, option_copied}
+use Rattle.std.proofs.Common.{◌≡◌, ℕ, zero, suc, ◌+◌, List, [], ◌∷◌, ◌++◌, Bool, true, false, ◌&&◌, Option, Some, None, refl, sym, ◌∙◌, subst, is_some, nat_eq, if◌then◌else◌, slice_get, map, IfSome, IsSome, IsTrue, Bor, option_copied}
 use Rattle.std.specs.List.{list_all}
 use Rattle.std.proofs.lemmas.List.Folds.{list_all-append}
 use Rattle.ocm_entry.specs.Proper.{is_short}
@@ -76,6 +76,16 @@ short-get users (row ∷ rows) (suc i) all = short-get users rows i (first-true 
 pub short-at : (users : List User) (rows : List ShareRow) (n : ℕ) → list_all (is_owned users) rows ≡ true → IfSome (at_number (map (λ (row : ShareRow). row.share) rows) n) (λ (share : Share). IsTrue (is_short share.root))
 short-at users rows zero all = tt
 short-at users rows (suc i) all = short-get users rows i all
+
+owner-get : (users : List User) (rows : List ShareRow) (i : ℕ) → list_all (is_owned users) rows ≡ true → IfSome (slice_get (map (λ (row : ShareRow). row.share) rows) i) (λ (share : Share). IsSome (at_number users share.owner))
+owner-get users [] i all = tt
+owner-get users (row ∷ rows) zero all = (first-true (is_short row.share.root) (is_some (at_number users row.share.owner)) (first-true (is_owned users row) (list_all (is_owned users) rows) all).0).1
+owner-get users (row ∷ rows) (suc i) all = owner-get users rows i (first-true (is_owned users row) (list_all (is_owned users) rows) all).1
+
+-- the share of a number has an owner
+pub owner-at : (users : List User) (rows : List ShareRow) (n : ℕ) → list_all (is_owned users) rows ≡ true → IfSome (at_number (map (λ (row : ShareRow). row.share) rows) n) (λ (share : Share). IsSome (at_number users share.owner))
+owner-at users rows zero all = tt
+owner-at users rows (suc i) all = owner-get users rows i all
 
 -- what holds of the share of a number holds of it where it is lent
 pub each_lent : (P : Share → Type 0) (lent : Option (Bor Share)) (found : Option Share) → option_copied lent ≡ found → IfSome found P → IfSome lent (λ share. P share.now)

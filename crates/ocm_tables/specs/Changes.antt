@@ -1,4 +1,4 @@
-use Rattle.std.specs.Prelude.{◌≡◌, ◌<◌, ◌≤◌, ℕ, ◌+◌, List, [], ◌∷◌, ◌++◌, length, map, not, ◌&&◌, if◌then◌else◌, nat_eq, Bool, true, false, Some, None, IfSome, IsSome, IsSomeAnd, IsTrue, All}
+use Rattle.std.specs.Prelude.{◌≡◌, ◌<◌, ◌≤◌, ℕ, ◌+◌, List, [], ◌∷◌, ◌++◌, length, map, not, ◌&&◌, if◌then◌else◌, nat_eq, Bool, true, false, Option, Some, None, min, IfSome, IsSome, IsSomeAnd, IsTrue, All}
 use Rattle.std.specs.List.{list_any}
 use Rattle.ocm_types.specs.declared.phases.Phase.TheVariants.{Removed}
 use Rattle.ocm_types.specs.declared.phases.RequestPhase.TheVariants.{Undone}
@@ -13,7 +13,7 @@ use Rattle.ocm_rules.specs.declared.rows.SentRow.{SentRow}
 use Rattle.ocm_rules.specs.declared.rows.Told.{Told}
 use Rattle.ocm_rules.specs.Numbers.{at_number}
 use Rattle.ocm_rules.specs.Shares.{is_used}
-use Rattle.ocm_rules.specs.Files.{Carried, Gone, copies, limit_of, limit_of_carry, nodes_after, with_node}
+use Rattle.ocm_rules.specs.Files.{Act, Carried, Gone, Placed, copies, limit_of, limit_of_carry, nodes_after, with_node}
 use Rattle.ocm_rules.specs.Offers.{is_given_up, is_of}
 use Rattle.ocm_rules.specs.State.{State, changed_at, map_numbered, new_received_row, new_sent_row, new_share_row, node_at, view_in}
 use Rattle.ocm_tables.specs.Tables.{Rooms}
@@ -69,6 +69,17 @@ changed st change messages = with_sent (acted st change) messages
 abbrev pub is_kept : Change → Bool
 is_kept changes.Nothing = false
 is_kept change = true
+
+-- what a change does to files
+abbrev pub file_act : Change → Option Act
+file_act (changes.Put node) = Some (Placed node.place node.standing)
+file_act (changes.Remove place) = Some (Gone place)
+file_act (changes.Carry carry) = Some (Carried carry.from carry.to carry.moving)
+file_act change = None
+
+-- how many changes there were once one is made; the count stands still at the largest number
+abbrev pub entries_after : ℕ → Change → ℕ
+entries_after entries change = if is_kept change then min (entries + 1) 18446744073709551615 else entries
 
 -- ---- what a change has to keep to
 

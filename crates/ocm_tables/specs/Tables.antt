@@ -1,4 +1,4 @@
-use Rattle.std.specs.Prelude.{◌≡◌, ℕ, List, length, Bool, true, false, ◌&&◌, is_some}
+use Rattle.std.specs.Prelude.{◌≡◌, ◌≤◌, ℕ, All, List, length, Bool, true, false, ◌&&◌, is_some}
 use Rattle.std.specs.Option.{option_map_or}
 use Rattle.std.specs.List.{list_all}
 use Rattle.ocm_entry.specs.Proper.{is_short}
@@ -11,6 +11,7 @@ use Rattle.ocm_rules.specs.declared.rows.ReceivedRow.{ReceivedRow}
 use Rattle.ocm_rules.specs.declared.rows.ShareRow.{ShareRow}
 use Rattle.ocm_rules.specs.Numbers.{at_number, same_text}
 use Rattle.ocm_rules.specs.State.{State}
+use Rattle.ocm_law_origins.specs.Origins.{Origin}
 use Rattle.ocm_tables.specs.Joined.{joined}
 
 -- for how many more of each there is room without memory
@@ -22,10 +23,12 @@ pub record Rooms : Type 0 where
   pub told : ℕ
   pub messages : ℕ
 
--- what callers see of a server's tables: the lists, and the room
+-- what callers see of a server's tables: the lists, the room, how many changes there were, and by which of them each node stands
 pub record ServerLists : Type 0 where
   pub state : State
   pub room : Rooms
+  pub entries : ℕ
+  pub origins : List Origin
 
 -- the row of a received offer, and what its guest was told
 abbrev pub received_row : Record → Told → ReceivedRow
@@ -43,10 +46,11 @@ record_in row = record { offer = row.offer; phase = row.phase }
 abbrev pub is_owned : List User → ShareRow → Bool
 is_owned users row = is_short row.share.root && is_some (at_number users row.share.owner)
 
--- what the tables keep together: one telling for each received offer, and shares of users with short roots
-pub record IsServer (users : List User) (shares : List ShareRow) (records : List Record) (told : List Told) : Type 0 where
+-- what the tables keep together: one telling for each received offer, shares of users with short roots, and nodes by changes that were made
+pub record IsServer (users : List User) (shares : List ShareRow) (records : List Record) (told : List Told) (entries : ℕ) (origins : List Origin) : Type 0 where
   pub each_told : length told ≡ length records
   pub owned : list_all (is_owned users) shares ≡ true
+  pub made : All (λ (origin : Origin). origin.number ≤ entries) origins
 
 -- whether the offer of this number is for a user of this name
 abbrev pub is_offer_for : List Offer → List ℕ → ℕ → Bool

@@ -1,8 +1,10 @@
 //! Room for a change, and the change itself.
-ghost use Rattle.std.specs.Prelude.{◌≡◌, ◌≤◌, ◌<◌, ◌+◌, ◌++◌, length, map, All, IsSome, OnOk};
+ghost use Rattle.std.specs.Prelude.{◌≡◌, ◌≤◌, ◌<◌, ◌+◌, ◌++◌, length, map, None, All, IsSome, OnOk};
 ghost use Rattle.ocm_rules.specs.Numbers.{at_number};
+ghost use Rattle.ocm_rules.specs.Files.{limit_of};
 ghost use Rattle.ocm_rules.specs.State.{new_sent_row};
-ghost use Rattle.ocm_tables.specs.Changes.{Fits, FitsOutcome, FitsRequest, FitsShare, FitsUser, HasNumbers, HasRoom, IsMessage, IsRecord, IsRequest, IsShare, acted, changed, told_all, with_outcome, with_sent};
+ghost use Rattle.ocm_law_origins.specs.Origins.{origins_after};
+ghost use Rattle.ocm_tables.specs.Changes.{Fits, FitsOutcome, FitsRequest, FitsShare, FitsUser, HasNumbers, HasRoom, IsMessage, IsRecord, IsRequest, IsShare, acted, changed, entries_after, file_act, told_all, with_outcome, with_sent};
 ghost use Rattle.ocm_tables.specs.declared.changes.Change.TheVariants as changes;
 ghost use Rattle.ocm_tables.specs.declared.changes.Outcome.TheVariants as outcomes;
 
@@ -11,10 +13,11 @@ use crate::tables::Tables;
 use ocm_base::{List, NoMemory};
 use ocm_chain::PlannedShare;
 use ocm_change::Board;
-use ocm_entry::Request;
+use ocm_entry::{Place, Request};
 use ocm_incoming::{Mark, PlannedOffer};
 use ocm_outgoing::Outbox;
 use ocm_rules::Message;
+use ocm_tree::{PlannedCarry, PlannedNode};
 use ocm_types::{Perms, Phase, RequestPhase};
 use ocm_users::PlannedUser;
 
@@ -22,6 +25,8 @@ impl Tables {
     /// Takes the memory that a change and so many messages need. The lists stay.
     pub fn room(&mut self, change: &Change, messages: u32) -> Result<(), NoMemory>
         ensures state { self.new.state ≡ self.old.state }
+        ensures entries { self.new.entries ≡ self.old.entries }
+        ensures origins { self.new.origins ≡ self.old.origins }
         ensures change { OnOk result (HasRoom self.new.room change.now) }
         ensures messages { OnOk result (messages ≤ self.new.room.messages) }
     {
@@ -33,6 +38,8 @@ impl Tables {
     /// Takes the memory that a change needs in its table. The lists stay.
     fn room_for(&mut self, change: &Change) -> Result<(), NoMemory>
         ensures state { self.new.state ≡ self.old.state }
+        ensures entries { self.new.entries ≡ self.old.entries }
+        ensures origins { self.new.origins ≡ self.old.origins }
         ensures change { OnOk result (HasRoom self.new.room change.now) }
         ensures messages { self.old.room.messages ≤ self.new.room.messages }
     {
@@ -69,6 +76,8 @@ impl Tables {
 
     fn room_to_receive(&mut self) -> Result<(), NoMemory>
         ensures state { self.new.state ≡ self.old.state }
+        ensures entries { self.new.entries ≡ self.old.entries }
+        ensures origins { self.new.origins ≡ self.old.origins }
         ensures records { OnOk result (0 < self.new.room.records) }
         ensures told { OnOk result (0 < self.new.room.told) }
         ensures messages { self.old.room.messages ≤ self.new.room.messages }
@@ -84,26 +93,41 @@ impl Tables {
         requires numbers { HasNumbers self.old.state messages }
         requires room { HasRoom self.old.room change }
         requires sending { length messages ≤ self.old.room.messages }
-        ensures { self.new.state ≡ changed self.old.state change messages }
+        ensures state { self.new.state ≡ changed self.old.state change messages }
+        ensures entries { self.new.entries ≡ entries_after self.old.entries change }
+        ensures origins { self.new.origins ≡ origins_after (file_act change) self.new.entries self.old.origins }
     {
+        self.count(&change);
         self.act(change);
         self.send(messages);
     }
 
-    /// Makes a change, its messages aside.
+    /// Counts a change.
+    fn count(&mut self, change: &Change)
+        ensures state { self.new.state ≡ self.old.state }
+        ensures room { self.new.room ≡ self.old.room }
+        ensures entries { self.new.entries ≡ entries_after self.old.entries change.now }
+        ensures origins { self.new.origins ≡ self.old.origins }
+    {
+        self.entries = self.entries_after(change);
+    }
+
+    /// Makes a change that was counted, its messages aside.
     fn act(&mut self, change: Change)
         requires fits { Fits self.old.state change }
         requires room { HasRoom self.old.room change }
         ensures state { self.new.state ≡ acted self.old.state change }
+        ensures entries { self.new.entries ≡ self.old.entries }
+        ensures origins { self.new.origins ≡ origins_after (file_act change) self.old.entries self.old.origins }
         ensures messages { self.old.room.messages ≤ self.new.room.messages }
     {
         match change {
             Change::Nothing => {}
             Change::Advance { clock } => self.shares.advance(clock),
             Change::AddUser(user) => self.add_user(user),
-            Change::Put(node) => self.files.put(node),
-            Change::Remove(place) => self.files.remove(&place),
-            Change::Carry(carry) => self.files.carry(carry),
+            Change::Put(node) => self.put(node),
+            Change::Remove(place) => self.remove(&place),
+            Change::Carry(carry) => self.carry(carry),
             Change::AddShare(share) => self.add_share(share),
             Change::Close { id } => self.close(id),
             Change::Limit { id, perms } => self.limit(id, perms),
@@ -122,10 +146,43 @@ impl Tables {
         }
     }
 
+    fn put(&mut self, node: PlannedNode)
+        requires fits { limit_of self.old.state.nodes node ≡ None }
+        requires room { 0 < self.old.room.files }
+        ensures state { self.new.state ≡ acted self.old.state (changes.Put node) }
+        ensures entries { self.new.entries ≡ self.old.entries }
+        ensures origins { self.new.origins ≡ origins_after (file_act (changes.Put node)) self.old.entries self.old.origins }
+        ensures messages { self.old.room.messages ≤ self.new.room.messages }
+    {
+        self.files.put(node, self.entries);
+    }
+
+    fn remove(&mut self, place: &Place)
+        ensures state { self.new.state ≡ acted self.old.state (changes.Remove place.now) }
+        ensures entries { self.new.entries ≡ self.old.entries }
+        ensures origins { self.new.origins ≡ origins_after (file_act (changes.Remove place.now)) self.old.entries self.old.origins }
+        ensures messages { self.old.room.messages ≤ self.new.room.messages }
+    {
+        self.files.remove(place);
+    }
+
+    fn carry(&mut self, carry: PlannedCarry)
+        requires fits { Fits self.old.state (changes.Carry carry) }
+        requires room { length carry.nodes ≤ self.old.room.files }
+        ensures state { self.new.state ≡ acted self.old.state (changes.Carry carry) }
+        ensures entries { self.new.entries ≡ self.old.entries }
+        ensures origins { self.new.origins ≡ origins_after (file_act (changes.Carry carry)) self.old.entries self.old.origins }
+        ensures messages { self.old.room.messages ≤ self.new.room.messages }
+    {
+        self.files.carry(carry);
+    }
+
     fn add_user(&mut self, user: PlannedUser)
         requires fits { FitsUser self.old.state user }
         requires room { 0 < self.old.room.users }
         ensures state { self.new.state ≡ acted self.old.state (changes.AddUser user) }
+        ensures entries { self.new.entries ≡ self.old.entries }
+        ensures origins { self.new.origins ≡ self.old.origins }
         ensures messages { self.old.room.messages ≤ self.new.room.messages }
     {
         self.users.add(user);
@@ -135,6 +192,8 @@ impl Tables {
         requires fits { FitsShare self.old.state share }
         requires room { 0 < self.old.room.shares }
         ensures state { self.new.state ≡ acted self.old.state (changes.AddShare share) }
+        ensures entries { self.new.entries ≡ self.old.entries }
+        ensures origins { self.new.origins ≡ self.old.origins }
         ensures messages { self.old.room.messages ≤ self.new.room.messages }
     {
         let _id = self.shares.make(share);
@@ -143,6 +202,8 @@ impl Tables {
     fn close(&mut self, id: u32)
         requires { IsShare self.old.state id }
         ensures state { self.new.state ≡ acted self.old.state (changes.Close id) }
+        ensures entries { self.new.entries ≡ self.old.entries }
+        ensures origins { self.new.origins ≡ self.old.origins }
         ensures messages { self.old.room.messages ≤ self.new.room.messages }
     {
         self.shares.close(id);
@@ -152,6 +213,8 @@ impl Tables {
         requires share { IsShare self.old.state id }
         requires few { self.old.state.limits < 4294967295 }
         ensures state { self.new.state ≡ acted self.old.state (changes.Limit id perms) }
+        ensures entries { self.new.entries ≡ self.old.entries }
+        ensures origins { self.new.origins ≡ self.old.origins }
         ensures messages { self.old.room.messages ≤ self.new.room.messages }
     {
         self.shares.limit(id, perms);
@@ -161,6 +224,8 @@ impl Tables {
     fn expire(&mut self, id: u32, until: u64)
         requires { IsShare self.old.state id }
         ensures state { self.new.state ≡ acted self.old.state (changes.Expire id until) }
+        ensures entries { self.new.entries ≡ self.old.entries }
+        ensures origins { self.new.origins ≡ self.old.origins }
         ensures messages { self.old.room.messages ≤ self.new.room.messages }
     {
         self.shares.expire(id, until);
@@ -171,6 +236,8 @@ impl Tables {
         requires records { 0 < self.old.room.records }
         requires told { 0 < self.old.room.told }
         ensures state { self.new.state ≡ acted self.old.state (changes.Receive offer) }
+        ensures entries { self.new.entries ≡ self.old.entries }
+        ensures origins { self.new.origins ≡ self.old.origins }
         ensures messages { self.old.room.messages ≤ self.new.room.messages }
     {
         let perms = offer.offer().perms;
@@ -181,6 +248,8 @@ impl Tables {
     fn set_phase(&mut self, number: u32, phase: Phase)
         requires { IsRecord self.old.state number }
         ensures state { self.new.state ≡ acted self.old.state (changes.SetPhase number phase) }
+        ensures entries { self.new.entries ≡ self.old.entries }
+        ensures origins { self.new.origins ≡ self.old.origins }
         ensures messages { self.old.room.messages ≤ self.new.room.messages }
     {
         self.inbox.set_phase(number, phase);
@@ -190,6 +259,8 @@ impl Tables {
         requires fits { FitsRequest self.old.state request }
         requires room { 0 < self.old.room.records }
         ensures state { self.new.state ≡ acted self.old.state (changes.AddRequest request) }
+        ensures entries { self.new.entries ≡ self.old.entries }
+        ensures origins { self.new.origins ≡ self.old.origins }
         ensures messages { self.old.room.messages ≤ self.new.room.messages }
     {
         let _number = self.inbox.ask(request);
@@ -198,6 +269,8 @@ impl Tables {
     fn set_state(&mut self, request: u32, state: RequestPhase)
         requires { IsRequest self.old.state request }
         ensures state { self.new.state ≡ with_outcome self.old.state (outcomes.SetState request state) }
+        ensures entries { self.new.entries ≡ self.old.entries }
+        ensures origins { self.new.origins ≡ self.old.origins }
         ensures messages { self.old.room.messages ≤ self.new.room.messages }
     {
         self.inbox.set_state(request, state);
@@ -205,6 +278,8 @@ impl Tables {
 
     fn give_up(&mut self, mark: &Mark)
         ensures state { self.new.state ≡ acted self.old.state (changes.GiveUp mark.now) }
+        ensures entries { self.new.entries ≡ self.old.entries }
+        ensures origins { self.new.origins ≡ self.old.origins }
         ensures messages { self.old.room.messages ≤ self.new.room.messages }
     {
         let _count = self.inbox.removed(mark);
@@ -213,6 +288,8 @@ impl Tables {
     fn tell(&mut self, numbers: &List<u32>, serial: u32, perms: Perms)
         requires { All (λ number. IsRecord self.old.state number) numbers.now }
         ensures state { self.new.state ≡ acted self.old.state (changes.Tell numbers.now serial perms) }
+        ensures entries { self.new.entries ≡ self.old.entries }
+        ensures origins { self.new.origins ≡ self.old.origins }
         ensures messages { self.old.room.messages ≤ self.new.room.messages }
     {
         tell_all(&mut self.board, numbers.as_slice(), serial, perms);
@@ -222,6 +299,8 @@ impl Tables {
         requires message { IsMessage self.old.state number }
         requires outcome { FitsOutcome self.old.state outcome }
         ensures state { self.new.state ≡ acted self.old.state (changes.Settle number outcome) }
+        ensures entries { self.new.entries ≡ self.old.entries }
+        ensures origins { self.new.origins ≡ self.old.origins }
         ensures messages { self.old.room.messages ≤ self.new.room.messages }
     {
         self.outbox.settle(number);
@@ -236,7 +315,9 @@ impl Tables {
     fn send(&mut self, messages: List<Message>)
         requires numbers { HasNumbers self.old.state messages }
         requires room { length messages ≤ self.old.room.messages }
-        ensures { self.new.state ≡ with_sent self.old.state messages }
+        ensures state { self.new.state ≡ with_sent self.old.state messages }
+        ensures entries { self.new.entries ≡ self.old.entries }
+        ensures origins { self.new.origins ≡ self.old.origins }
     {
         send_all(&mut self.outbox, messages);
     }

@@ -1,8 +1,8 @@
 use ocm_base::List;
 use ocm_chain::PlannedShare;
-use ocm_entry::{Place, Request};
+use ocm_entry::{Place, Request, Standing};
 use ocm_incoming::{Mark, PlannedOffer};
-use ocm_tree::{PlannedCarry, PlannedNode};
+use ocm_tree::{FileChange, PlannedCarry, PlannedNode};
 use ocm_types::{Perms, Phase, RequestPhase};
 use ocm_users::PlannedUser;
 
@@ -77,4 +77,76 @@ pub enum Change {
         number: u32,
         outcome: Outcome,
     },
+}
+
+impl Change {
+    ghost use Rattle.std.specs.Prelude.{◌≡◌, option_copied};
+    ghost use Rattle.ocm_tree.specs.Changes.{act_of};
+    ghost use Rattle.ocm_tables.specs.Changes.{file_act, is_kept};
+    ghost use Rattle.ocm_law_origins.specs.Origins.{put_of};
+
+    /// Whether it changes something.
+    pub(crate) fn is_kept(&self) -> bool
+        ensures { result ≡ is_kept self.now }
+    {
+        !matches!(self, Change::Nothing)
+    }
+
+    /// What it does to files.
+    pub(crate) fn file_change(&self) -> FileChange<'_>
+        ensures { act_of result ≡ file_act self.now }
+    {
+        match self {
+            Change::Put(node) => FileChange::Put {
+                place: node.place(),
+                standing: node.standing(),
+            },
+            Change::Remove(place) => FileChange::Remove { place },
+            Change::Carry(carry) => FileChange::Carry {
+                from: carry.from(),
+                to: carry.to(),
+                moving: carry.is_moving(),
+            },
+            Change::Nothing
+            | Change::Advance { clock: _ }
+            | Change::AddUser(_)
+            | Change::AddShare(_)
+            | Change::Close { id: _ }
+            | Change::Limit { id: _, perms: _ }
+            | Change::Expire { id: _, until: _ }
+            | Change::Receive(_)
+            | Change::SetPhase {
+                number: _,
+                phase: _,
+            }
+            | Change::AddRequest(_)
+            | Change::TakeBack { request: _ }
+            | Change::GiveUp(_)
+            | Change::Tell {
+                numbers: _,
+                serial: _,
+                perms: _,
+            }
+            | Change::Settle {
+                number: _,
+                outcome: _,
+            } => FileChange::Nothing,
+        }
+    }
+
+    /// What it puts at a place, if it does.
+    pub(crate) fn standing(&self) -> Option<&Standing>
+        ensures { option_copied result ≡ put_of (file_act self.now) }
+    {
+        match self.file_change() {
+            FileChange::Put { place: _, standing } => Some(standing),
+            FileChange::Nothing
+            | FileChange::Remove { place: _ }
+            | FileChange::Carry {
+                from: _,
+                to: _,
+                moving: _,
+            } => None,
+        }
+    }
 }

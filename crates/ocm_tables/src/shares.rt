@@ -28,6 +28,7 @@ impl Tables {
     pub fn share(&self, id: u32) -> Option<&Share>
         ensures share { option_copied result ≡ at_number (view_in self.now.state).shares id }
         ensures short { IfSome result (λ share. IsTrue (is_short share.now.root)) }
+        ensures owner { IfSome result (λ share. IsSome (at_number self.now.state.users share.now.owner)) }
     {
         self.shares.share(id)
     }

@@ -1,4 +1,4 @@
-ghost use Rattle.std.specs.Prelude.{◌≡◌};
+ghost use Rattle.std.specs.Prelude.{◌≡◌, []};
 ghost use Rattle.ocm_rules.specs.State.{empty_of};
 
 use ocm_chain::Chain;
@@ -24,6 +24,8 @@ pub struct Tables {
     pub(crate) inbox: Inbox,
     pub(crate) board: Board,
     pub(crate) outbox: Outbox,
+    /// How many changes there were.
+    pub(crate) entries: u64,
 }
 
 impl Model for Tables {
@@ -51,15 +53,19 @@ impl Model for Tables {
         told = t.board.room;
         messages = t.outbox.room;
       };
+      entries = t.entries;
+      origins = t.files.origins;
     } };
 
-    ghost invariant = { λ t. IsServer t.users.users t.shares.shares t.inbox.records t.board.told };
+    ghost invariant = { λ t. IsServer t.users.users t.shares.shares t.inbox.records t.board.told t.entries t.files.origins };
 }
 
 impl Tables {
     /// The tables of a server of this host before its first entry.
     pub fn new(alloc: Global, host: Host) -> Tables
-        ensures { result.state ≡ empty_of host }
+        ensures state { result.state ≡ empty_of host }
+        ensures entries { result.entries ≡ 0 }
+        ensures origins { result.origins ≡ [] }
     {
         Tables {
             alloc,
@@ -71,6 +77,7 @@ impl Tables {
             inbox: Inbox::new(alloc),
             board: Board::new(alloc),
             outbox: Outbox::new(alloc),
+            entries: 0,
         }
     }
 
@@ -98,5 +105,13 @@ impl Tables {
         ensures { result ≡ self.now.state.limits }
     {
         self.limits
+    }
+
+    /// How many of the asks so far made a change, the last of which is that of the newest number. The
+    /// count stands still at 2^64 - 1.
+    pub fn entries(&self) -> u64
+        ensures { result ≡ self.now.entries }
+    {
+        self.entries
     }
 }

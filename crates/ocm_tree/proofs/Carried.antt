@@ -11,13 +11,14 @@ use Rattle.ocm_path.specs.Paths.{Segments, is_root, parent, joined, path_text}
 use Rattle.ocm_entry.specs.declared.rows.Place.{Place}
 use Rattle.ocm_entry.specs.declared.rows.Node.{Node}
 use Rattle.ocm_entry.specs.declared.rows.Standing.{Standing}
-use Rattle.ocm_rules.specs.Files.{same_place, is_at_or_above, parent_of, moved, stays, size_of, total_size, copies, is_too_long, nodes_after, Carried, passed_by, path_limit, limit_of_carry}
+use Rattle.ocm_rules.specs.Files.{same_place, is_at_or_above, parent_of, moved, stays, size_of, total_size, child_count, copies, is_too_long, nodes_after, Carried, passed_by, path_limit, limit_of_carry}
 use Rattle.ocm_rules.proofs.Places.{same_place-refl, same_place-equal, above-split}
 use Rattle.ocm_rules.proofs.Nodes.{copies-one}
 use Rattle.ocm_tree.specs.declared.amounts.Amount.{Amount}
 use Rattle.ocm_tree.specs.declared.amounts.Amount.TheVariants.{Bytes, Nodes, Siblings}
 use Rattle.ocm_tree.specs.Carries.{carried, weight, amount_of, makes_long_path}
 use Rattle.ocm_tree.proofs.Removed.{append-nil, length-append}
+use Rattle.ocm_tree.proofs.LimitNumbers.{none-within}
 
 -- ---- which copies lie beside the first
 
@@ -215,7 +216,17 @@ limit_of_carry-paths ns from to moving (Some standing) h =
     let both = or-none (passed_by after (record { place = to; standing = standing })) (path_limit (copies from to ns)) h in
     none-test (list_any (makes_long_path from to) ns) (sym (path_limit-copies from to ns) ∙ both.1)
 
-filter-both : (p q : Node → Bool) (ns : List Node) → filter p (filter q ns) ≡ filter (λ n. p n && q n) ns
+-- where no limit is passed, no more nodes stand after a copy or move than may stand
+pub limit_of_carry-few : (ns : List Node) (from to : Place) (moving : Bool) (o : Option Standing) →
+    IsSomeAnd o (λ standing. limit_of_carry ns from to moving standing ≡ None) → length (nodes_after (Some (Carried from to moving)) ns) ≤ 65536
+limit_of_carry-few ns from to moving None h = absurd h
+limit_of_carry-few ns from to moving (Some standing) h =
+    let after = nodes_after (Some (Carried from to moving)) ns in
+    let both = or-none (passed_by after (record { place = to; standing = standing })) (path_limit (copies from to ns)) h in
+    (none-within (size_of standing) (total_size after) (length after) (child_count after (parent_of to)) both.0).nodes
+
+-- what passes two tests, one after the other
+pub filter-both : {X : Type 0} (p q : X → Bool) (ns : List X) → filter p (filter q ns) ≡ filter (λ n. p n && q n) ns
 filter-both p q [] = refl
 filter-both p q (n ∷ ns) = by_tests (filter-both p q ns) (p n) refl (q n)
   where
@@ -231,11 +242,12 @@ pub stays-moving : (from to : Place) (ns : List Node) →
     filter (λ (n : Node). not (is_at_or_above to n.place)) (filter (λ (n : Node). not (is_at_or_above from n.place)) ns) ≡ filter (stays from to true) ns
 stays-moving from to ns = filter-both (λ (n : Node). not (is_at_or_above to n.place)) (λ (n : Node). not (is_at_or_above from n.place)) ns
 
-filter-alike : (p q : Node → Bool) → ((n : Node) → p n ≡ q n) → (ns : List Node) → filter p ns ≡ filter q ns
+-- tests that agree pass the same
+pub filter-alike : {X : Type 0} (p q : X → Bool) → ((n : X) → p n ≡ q n) → (ns : List X) → filter p ns ≡ filter q ns
 filter-alike p q h [] = refl
 filter-alike p q h (n ∷ ns) = rw (h n, filter-alike p q h ns) refl
 
-and-true : (b : Bool) → b ≡ (b && true)
+pub and-true : (b : Bool) → b ≡ (b && true)
 and-true true = refl
 and-true false = refl
 

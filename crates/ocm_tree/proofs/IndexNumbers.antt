@@ -31,7 +31,8 @@ pub node_at-none : (ns : List Node) (place : Place) → index_of ns place ≡ No
 node_at-none [] place e = refl
 node_at-none (m ∷ ms) place e = none-step (same_place m.place place) (index_of ms place) m (node_at ms place) (node_at-none ms place) e
 
-set-step : (b : Bool) (inner : Option ℕ) (m n : Node) (ms others : List Node) → ((j : ℕ) → inner ≡ Some j → slice_set ms j n ≡ others) →
+-- one item more before those of which one is written over
+pub set-step : {X : Type 0} (b : Bool) (inner : Option ℕ) (m n : X) (ms others : List X) → ((j : ℕ) → inner ≡ Some j → slice_set ms j n ≡ others) →
     (i : ℕ) → cond b (Some 0) (option_map (λ k. k + 1) inner) ≡ Some i → slice_set (m ∷ ms) i n ≡ cond b (n ∷ ms) (m ∷ others)
 set-step true inner m n ms others h i e = let z : 0 ≡ i = cc in rw (← z) refl
 set-step false None m n ms others h i e = absurd (cc)
@@ -42,7 +43,8 @@ pub set-with_node : (ns : List Node) (n : Node) (i : ℕ) → index_of ns n.plac
 set-with_node [] n i e = absurd (cc)
 set-with_node (m ∷ ms) n i e = set-step (same_place m.place n.place) (index_of ms n.place) m n ms (with_node ms n) (λ j f. set-with_node ms n j f) i e
 
-push-step : (b : Bool) (inner : Option ℕ) (m n : Node) (ms others : List Node) → (inner ≡ None → others ≡ ms ++ n ∷ []) →
+-- one item more before those behind which one is added
+pub push-step : {X : Type 0} (b : Bool) (inner : Option ℕ) (m n : X) (ms others : List X) → (inner ≡ None → others ≡ ms ++ n ∷ []) →
     cond b (Some 0) (option_map (λ k. k + 1) inner) ≡ None → cond b (n ∷ ms) (m ∷ others) ≡ m ∷ (ms ++ n ∷ [])
 push-step true inner m n ms others h e = absurd (cc)
 push-step false None m n ms others h e = ap (λ l. m ∷ l) (h refl)

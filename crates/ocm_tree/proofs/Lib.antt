@@ -9,3 +9,8 @@ pub mod Removed
 pub mod Carried
 pub mod Listed
 pub mod NamesInOrder
+pub mod Parted
+pub mod NumberCounts
+pub mod OriginLists
+pub mod FirstStanding
+pub mod FirstAmong

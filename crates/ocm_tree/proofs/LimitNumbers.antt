@@ -16,7 +16,8 @@ pub record AreWithin (bytes all count below : ℕ) : Type 0 where
   pub nodes : count ≤ 65536
   pub children : below ≤ 4096
 
-none-within : (size total count children : ℕ) → cond (nat_lt 1048576 size) (Some FileSize) (first_passed total count children) ≡ None → AreWithin size total count children
+-- where no limit is passed by four numbers, each is within its limit
+pub none-within : (size total count children : ℕ) → cond (nat_lt 1048576 size) (Some FileSize) (first_passed total count children) ≡ None → AreWithin size total count children
 none-within size total count children e = record {
   size = grind (arith, nat_tests);
   total = grind (arith, nat_tests);

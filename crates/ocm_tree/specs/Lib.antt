@@ -1,3 +1,7 @@
 pub mod Tables
 pub mod Carries
 pub mod Listing
+pub mod Orders
+pub mod Standings
+pub mod Changes
+pub mod Trees

@@ -12,8 +12,8 @@ use Rattle.ocm_entry.specs.declared.rows.Node.{Node}
 use Rattle.ocm_rules.specs.Files.{same_place, size_of, total_size, child_count}
 use Rattle.ocm_rules.specs.State.{EachOnce}
 
--- what callers see of a tree: what stands, and how many more nodes it takes without memory
-pub record TreeLists : Type 0 where
+-- what is seen of the nodes with their indexes: what stands, and for how many more nodes there is room without memory
+pub record NodeLists : Type 0 where
   pub nodes : List Node
   pub room : ℕ
 

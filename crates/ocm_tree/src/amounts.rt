@@ -24,7 +24,7 @@ pub enum Amount {
 }
 
 /// Whether a node stays where it stands at a copy or move.
-fn stays(from: &Place, to: &Place, moving: bool, node: &Node) -> bool
+pub fn stays(from: &Place, to: &Place, moving: bool, node: &Node) -> bool
     ensures { result ≡ stays from.now to.now moving node.now }
 {
     !is_at_or_above(to, &node.place) && !(moving && is_at_or_above(from, &node.place))

@@ -1,4 +1,4 @@
-ghost use Rattle.std.specs.Prelude.{◌≡◌, length, false, IfOk};
+ghost use Rattle.std.specs.Prelude.{◌≡◌, ◌≤◌, [], length, false, vec_capacity, IfOk};
 ghost use Rattle.std.specs.List.{list_any};
 ghost use Rattle.ocm_rules.specs.Files.{copies, is_too_long};
 ghost use Rattle.ocm_tree.specs.Carries.{carried, makes_long_path};
@@ -18,14 +18,19 @@ pub struct PlannedCarry {
     to: Place,
     moving: bool,
     nodes: Vec<PlannedNode>,
+    /// No numbers yet, with room for one of each node.
+    numbers: Vec<u64>,
 }
 
 impl Model for PlannedCarry {
+    ghost use Rattle.std.specs.Prelude.{◌≡◌, ◌≤◌, [], length, vec_capacity};
     ghost use Rattle.ocm_tree.specs.Carries.{CarryLists};
 
     ghost Value = { CarryLists };
 
     ghost view = { λ c. record { from = c.from; to = c.to; moving = c.moving; nodes = c.nodes.items } };
+
+    ghost invariant = { λ c. (c.numbers.items ≡ []) × (length c.nodes.items ≤ vec_capacity c.numbers) };
 }
 
 impl PlannedCarry {
@@ -41,6 +46,8 @@ impl PlannedCarry {
         ensures { IfOk result (λ planned. planned ≡ record { from = from.now; to = to.now; moving = moving; nodes = copies from.now to.now nodes.now }) }
     {
         let nodes = plan_copies(alloc, from, to, nodes)?;
+        let mut numbers = Vec::new(alloc);
+        numbers.reserve(nodes.len())?;
         let from = from.copy()?;
         let to = to.copy()?;
         Ok(PlannedCarry {
@@ -48,7 +55,29 @@ impl PlannedCarry {
             to,
             moving,
             nodes,
+            numbers,
         })
+    }
+
+    /// From where it copies or moves.
+    pub fn from(&self) -> &Place
+        ensures { result.now ≡ self.now.from }
+    {
+        &self.from
+    }
+
+    /// To where it copies or moves.
+    pub fn to(&self) -> &Place
+        ensures { result.now ≡ self.now.to }
+    {
+        &self.to
+    }
+
+    /// Whether it moves.
+    pub fn is_moving(&self) -> bool
+        ensures { result ≡ self.now.moving }
+    {
+        self.moving
     }
 
     /// How many nodes it makes.
@@ -58,14 +87,17 @@ impl PlannedCarry {
         self.nodes.len()
     }
 
-    /// Where from and to, whether it moves, and the nodes that it makes.
-    pub(crate) fn into_parts(self) -> (Place, Place, bool, Vec<PlannedNode>)
+    /// Where from and to, whether it moves, the nodes that it makes, and a list with room for a number
+    /// of each.
+    pub(crate) fn into_parts(self) -> (Place, Place, bool, Vec<PlannedNode>, Vec<u64>)
         ensures from { result.0 ≡ self.from }
         ensures to { result.1 ≡ self.to }
         ensures moving { result.2 ≡ self.moving }
         ensures nodes { result.3.items ≡ self.nodes }
+        ensures empty { result.4.items ≡ [] }
+        ensures room { length self.nodes ≤ vec_capacity result.4 }
     {
-        (self.from, self.to, self.moving, self.nodes)
+        (self.from, self.to, self.moving, self.nodes, self.numbers)
     }
 }
 

@@ -38,6 +38,20 @@ impl PlannedNode {
         Ok(PlannedNode { node, key, parent })
     }
 
+    /// Where it is about to stand.
+    pub fn place(&self) -> &Place
+        ensures { result.now ≡ self.now.place }
+    {
+        &self.node.place
+    }
+
+    /// What is about to stand there.
+    pub fn standing(&self) -> &Standing
+        ensures { result.now ≡ self.now.standing }
+    {
+        &self.node.standing
+    }
+
     /// The node, its place once more, and the place that it lies in.
     pub(crate) fn into_parts(self) -> (Node, Place, Place)
         ensures node { result.0 ≡ self }

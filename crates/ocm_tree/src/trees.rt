@@ -1,85 +1,62 @@
-ghost use Rattle.std.specs.Prelude.{◌≡◌, ◌<◌, ◌≤◌, ◌+◌, ◌∷◌, ◌++◌, [], length, Some, None, filter, IfOk, IfSome, IsSomeAnd, OnOk, option_copied};
+ghost use Rattle.std.specs.Prelude.{◌≡◌, ◌≢◌, ◌<◌, ◌≤◌, ◌+◌, ◌++◌, ℕ, [], All, length, Some, None, filter, IfOk, IfSome, IsSomeAnd, OnOk, option_copied};
 ghost use Rattle.ocm_path.specs.Paths.{path_text};
 ghost use Rattle.ocm_entry.specs.declared.rows.Standing.{Standing};
 ghost use Rattle.ocm_entry.specs.declared.rows.Standing.TheVariants.{Collection, File};
-ghost use Rattle.ocm_rules.specs.Files.{size_of, parent_of, total_size, child_count, with_node, with_roots, limit_of, nodes_after, Gone, Carried, copies, stays, limit_of_carry};
+ghost use Rattle.ocm_rules.specs.Files.{size_of, parent_of, with_node, with_roots, limit_of, nodes_after, Gone, Carried, copies, stays, limit_of_carry};
 ghost use Rattle.ocm_rules.specs.State.{node_at, EachOnce};
 ghost use Rattle.ocm_rules.specs.Answers.{is_collection, items_in};
-ghost use Rattle.ocm_tree.specs.Tables.{index_of};
+ghost use Rattle.ocm_law_origins.specs.Origins.{Origin, body_from, copied, origin_stays, origins_after, with_origin};
 ghost use Rattle.ocm_tree.specs.Carries.{limit_after};
+ghost use Rattle.ocm_tree.specs.Changes.{act_of};
 
 use crate::amounts::{Amount, amount_after, limit_of_paths};
 use crate::carries::PlannedCarry;
-use crate::indexes::{counted, drop_counts, drop_nodes, drop_places, number_places};
-use crate::limits::{MOST_FILE_BYTES, first_passed, growth, present, size_at, size_of, total_size};
+use crate::changes::{FileChange, Part};
+use crate::entry_numbers::EntryNumbers;
+use crate::firsts::first_standing;
+use crate::limits::{MOST_FILE_BYTES, first_passed, growth, size_at};
 use crate::listing::{children_of, items_of};
+use crate::nodes::NodeTable;
+use crate::numbers::copy_numbers;
 use crate::plans::PlannedNode;
 use ocm_base::{Bytes, List, NoMemory};
 use ocm_entry::{DavItem, Node, Place, Standing};
 use ocm_path::Path;
 use ocm_types::Which;
 use std::alloc::Global;
-use std::collections::HashMap;
 use std::marker::Model;
 
-/// What stands on a server, each place once. Contracts see the list of the nodes, and how many more
-/// nodes the tree takes without memory.
+/// What stands on a server, each place once, with the number of the kept entry that put it there.
+/// Contracts see the list of the nodes, for each node its place and its number, and how many more nodes
+/// the tree takes without memory.
 #[derive(Drop)]
 pub struct Tree {
-    /// What stands at each user's root.
-    root: Standing,
-    nodes: Vec<Node>,
-    /// Which node stands at a place.
-    places: HashMap<Place, u32>,
-    /// How many nodes lie in a collection.
-    children: HashMap<Place, u32>,
-    /// The bytes of all files.
-    total: u64,
+    table: NodeTable,
+    /// The numbers of the nodes, in the order of the nodes.
+    numbers: EntryNumbers,
 }
 
 impl Model for Tree {
-    ghost use Rattle.std.specs.Prelude.{◌-◌, min, vec_len, vec_capacity};
-    ghost use Rattle.std.specs.HashMap.{spare};
-    ghost use Rattle.ocm_tree.specs.Tables.{TreeLists, IsTable};
+    ghost use Rattle.std.specs.Prelude.{◌≡◌, length, min};
+    ghost use Rattle.ocm_tree.specs.Standings.{origins_of};
+    ghost use Rattle.ocm_tree.specs.Trees.{TreeLists};
 
     ghost Value = { TreeLists };
 
-    ghost view = { λ t. record { nodes = t.nodes.items; room = min (vec_capacity t.nodes - vec_len t.nodes) (min (spare t.places) (spare t.children)) } };
+    ghost view = { λ t. record { nodes = t.table.nodes; origins = origins_of t.table.nodes t.numbers.numbers; room = min t.table.room t.numbers.room } };
 
-    ghost invariant = { λ t. IsTable t.root t.nodes.items t.places t.children t.total };
+    ghost invariant = { λ t. length t.table.nodes ≡ length t.numbers.numbers };
 }
 
 impl Tree {
     /// A tree in which nothing stands but each user's root.
     pub fn new(alloc: Global) -> Tree
-        ensures { result.nodes ≡ [] }
+        ensures nodes { result.nodes ≡ [] }
+        ensures origins { result.origins ≡ [] }
     {
         Tree {
-            root: Standing::Collection,
-            nodes: Vec::new(alloc),
-            places: HashMap::new(alloc),
-            children: HashMap::new(alloc),
-            total: 0,
-        }
-    }
-
-    fn index_of(&self, place: &Place) -> Option<usize>
-        ensures index { result ≡ index_of self.now.nodes place.now }
-        ensures within { IfSome result (λ i. i < length self.now.nodes) }
-    {
-        match self.places.get(place) {
-            Some(index) => Some(*index as usize),
-            None => None,
-        }
-    }
-
-    /// What stands at a place below the users' roots.
-    fn node_at(&self, place: &Place) -> Option<&Standing>
-        ensures { option_copied result ≡ node_at self.now.nodes place.now }
-    {
-        match self.index_of(place) {
-            Some(index) => Some(&self.nodes[index].standing),
-            None => None,
+            table: NodeTable::new(alloc),
+            numbers: EntryNumbers::new(alloc),
         }
     }
 
@@ -88,9 +65,9 @@ impl Tree {
         ensures { option_copied result ≡ with_roots (node_at self.now.nodes) place.now }
     {
         if place.path.is_root() {
-            Some(&self.root)
+            Some(self.table.root())
         } else {
-            self.node_at(place)
+            self.table.node_at(place)
         }
     }
 
@@ -99,27 +76,6 @@ impl Tree {
         ensures { result ≡ is_collection (with_roots (node_at self.now.nodes) place.now) }
     {
         matches!(self.standing_at(place), Some(Standing::Collection))
-    }
-
-    fn child_count(&self, place: &Place) -> u32
-        ensures count { result ≡ child_count self.now.nodes place.now }
-        ensures within { result ≤ 65536 }
-    {
-        counted(self.children.get(place))
-    }
-
-    fn total_size(&self) -> u64
-        ensures total { result ≡ total_size self.now.nodes }
-        ensures within { result ≤ 268435456 }
-    {
-        self.total
-    }
-
-    fn len(&self) -> usize
-        ensures len { result ≡ length self.now.nodes }
-        ensures within { result ≤ 65536 }
-    {
-        self.nodes.len()
     }
 
     /// The first limit that would be passed once a file with these bytes stands at a place: the bytes
@@ -152,17 +108,18 @@ impl Tree {
         requires small { size ≤ 1048576 }
         ensures { (standing : Standing) → size_of standing ≡ size → result ≡ limit_of self.now.nodes (record { place = place.now; standing = standing }) }
     {
-        let older = self.node_at(place);
-        let total = self.total_size() - size_at(older) + size;
+        let older = self.table.node_at(place);
+        let total = self.table.total_size() - size_at(older) + size;
         let more = growth(older);
-        let count = self.len() as u64 + u64::from(more);
-        let children = u64::from(self.child_count(parent) + more);
+        let count = self.table.len() as u64 + u64::from(more);
+        let children = u64::from(self.table.child_count(parent) + more);
         first_passed(total, count, children)
     }
 
     /// Room for one more node.
     pub fn room(&mut self) -> Result<(), NoMemory>
         ensures nodes { self.new.nodes ≡ self.old.nodes }
+        ensures origins { self.new.origins ≡ self.old.origins }
         ensures ok { OnOk result (0 < self.new.room) }
     {
         self.reserve(1)
@@ -171,39 +128,45 @@ impl Tree {
     /// Room for so many more nodes.
     fn reserve(&mut self, more: usize) -> Result<(), NoMemory>
         ensures nodes { self.new.nodes ≡ self.old.nodes }
+        ensures origins { self.new.origins ≡ self.old.origins }
         ensures ok { OnOk result (more ≤ self.new.room) }
     {
-        self.nodes.reserve(more)?;
-        self.places.reserve(more)?;
-        self.children.reserve(more)?;
+        self.table.reserve(more)?;
+        self.numbers.reserve(more)?;
         Ok(())
     }
 
-    /// Lets a node stand, in the place of what stood at its place or as one more. It takes no memory.
-    pub fn put(&mut self, planned: PlannedNode)
+    /// Lets a node stand that the entry of this number puts, in the place of what stood at its place or
+    /// as one more. No number so far is later. It takes no memory.
+    pub fn put(&mut self, planned: PlannedNode, number: u64)
         requires room { 0 < self.old.room }
         requires within { limit_of self.old.nodes planned ≡ None }
+        requires newest { All (λ (origin : Origin). origin.number ≤ number) self.old.origins }
         ensures nodes { self.new.nodes ≡ with_node self.old.nodes planned }
+        ensures origins { self.new.origins ≡ with_origin self.old.origins (record { place = planned.place; number = number }) }
         ensures room { self.old.room ≤ self.new.room + 1 }
     {
         let (node, key, parent) = planned.into_parts();
-        match self.index_of(&key) {
-            Some(index) => self.replace(index, node),
-            None => self.add(node, key, parent),
+        match self.table.index_of(&key) {
+            Some(index) => {
+                self.numbers.replace(index, number);
+                self.table.replace(index, node);
+            }
+            None => {
+                self.numbers.add(number);
+                self.table.add(node, key, parent);
+            }
         }
     }
 
     /// Lets nothing stand any more at a place and below it. It takes no memory.
     pub fn remove(&mut self, place: &Place)
         ensures nodes { self.new.nodes ≡ nodes_after (Some (Gone place.now)) self.old.nodes }
+        ensures origins { self.new.origins ≡ origins_after (Some (Gone place.now)) 0 self.old.origins }
         ensures room { self.old.room ≤ self.new.room }
     {
-        let gone = present(self.node_at(place));
-        drop_counts(&mut self.children, place, gone);
-        drop_places(&mut self.places, place);
-        drop_nodes(&mut self.nodes, place);
-        number_places(&self.nodes, &mut self.places);
-        self.total = total_size(&self.nodes);
+        self.numbers.remove(self.table.nodes(), place);
+        self.table.remove(place);
     }
 
     /// What lies in the collection at a place, in byte order of the names, as it is told below a path
@@ -212,8 +175,8 @@ impl Tree {
         requires short { length (path_text path.now) ≤ 1024 }
         ensures { IfOk result (λ items. items ≡ items_in self.now.nodes place.now path.now) }
     {
-        let alloc = *self.nodes.allocator();
-        let children = children_of(alloc, &self.nodes, place, path)?;
+        let alloc = self.table.allocator();
+        let children = children_of(alloc, self.table.nodes(), place, path)?;
         let items = items_of(alloc, children)?;
         Ok(items)
     }
@@ -225,12 +188,12 @@ impl Tree {
     pub fn limit_of_carry(&self, from: &Place, to: &Place, moving: bool) -> Option<Which>
         ensures { IfSome (node_at self.now.nodes from.now) (λ standing. result ≡ limit_of_carry self.now.nodes from.now to.now moving standing) }
     {
-        if size_at(self.node_at(from)) > MOST_FILE_BYTES {
+        if size_at(self.table.node_at(from)) > MOST_FILE_BYTES {
             return Some(Which::FileSize);
         }
         match self.limit_after(from, to, moving) {
             Some(limit) => Some(limit),
-            None => limit_of_paths(from, to, &self.nodes),
+            None => limit_of_paths(from, to, self.table.nodes()),
         }
     }
 
@@ -238,9 +201,10 @@ impl Tree {
     fn limit_after(&self, from: &Place, to: &Place, moving: bool) -> Option<Which>
         ensures { result ≡ limit_after self.now.nodes from.now to.now moving }
     {
-        let total = amount_after(Amount::Bytes, from, to, moving, &self.nodes);
-        let count = amount_after(Amount::Nodes, from, to, moving, &self.nodes);
-        let siblings = amount_after(Amount::Siblings, from, to, moving, &self.nodes);
+        let nodes = self.table.nodes();
+        let total = amount_after(Amount::Bytes, from, to, moving, nodes);
+        let count = amount_after(Amount::Nodes, from, to, moving, nodes);
+        let siblings = amount_after(Amount::Siblings, from, to, moving, nodes);
         first_passed(total, count, siblings)
     }
 
@@ -255,97 +219,64 @@ impl Tree {
         requires within { IsSomeAnd (node_at self.now.nodes from.now) (λ standing. limit_of_carry self.now.nodes from.now to.now moving standing ≡ None) }
         ensures { IfOk result (λ planned. planned ≡ record { from = from.now; to = to.now; moving = moving; nodes = copies from.now to.now self.now.nodes }) }
     {
-        PlannedCarry::new(*self.nodes.allocator(), from, to, moving, &self.nodes)
+        PlannedCarry::new(self.table.allocator(), from, to, moving, self.table.nodes())
     }
 
     /// Room for all that a copy or move makes.
     pub fn room_for(&mut self, planned: &PlannedCarry) -> Result<(), NoMemory>
         ensures nodes { self.new.nodes ≡ self.old.nodes }
+        ensures origins { self.new.origins ≡ self.old.origins }
         ensures ok { OnOk result (length planned.now.nodes ≤ self.new.room) }
     {
         self.reserve(planned.len())
     }
 
-    /// Makes a copy or move that was planned of what stands now. It takes no memory.
+    /// Makes a copy or move that was planned of what stands now. A copy has the number of what it is a
+    /// copy of. It takes no memory.
     pub fn carry(&mut self, planned: PlannedCarry)
         requires copies { planned.nodes ≡ copies planned.from planned.to self.old.nodes }
         requires within { IsSomeAnd (node_at self.old.nodes planned.from) (λ standing. limit_of_carry self.old.nodes planned.from planned.to planned.moving standing ≡ None) }
         requires room { length planned.nodes ≤ self.old.room }
         ensures nodes { self.new.nodes ≡ nodes_after (Some (Carried planned.from planned.to planned.moving)) self.old.nodes }
+        ensures origins { self.new.origins ≡ origins_after (Some (Carried planned.from planned.to planned.moving)) 0 self.old.origins }
     {
-        let (from, to, moving, nodes) = planned.into_parts();
+        let (from, to, moving, nodes, mut numbers) = planned.into_parts();
+        copy_numbers(
+            &mut numbers,
+            self.numbers.numbers(),
+            self.table.nodes(),
+            &from,
+        );
         self.clear(&from, &to, moving);
-        self.add_all(nodes);
+        self.table.add_all(nodes);
+        self.numbers.extend(&numbers);
     }
 
     /// Lets only what stays stand at a copy or move.
     fn clear(&mut self, from: &Place, to: &Place, moving: bool)
         ensures nodes { self.new.nodes ≡ filter (stays from.now to.now moving) self.old.nodes }
+        ensures origins { self.new.origins ≡ filter (origin_stays from.now to.now moving) self.old.origins }
         ensures room { self.old.room ≤ self.new.room }
-        ensures once { EachOnce self.old.nodes }
     {
-        let _root = &self.root;
         if moving {
             self.remove(from);
         }
         self.remove(to);
     }
 
-    /// Lets nodes stand where nothing stands.
-    fn add_all(&mut self, nodes: Vec<PlannedNode>)
-        requires room { length nodes.items ≤ self.old.room }
-        requires once { EachOnce (self.old.nodes ++ nodes.items) }
-        requires few { length (self.old.nodes ++ nodes.items) ≤ 65536 }
-        requires light { total_size (self.old.nodes ++ nodes.items) ≤ 268435456 }
-        ensures nodes { self.new.nodes ≡ self.old.nodes ++ nodes.items }
+    /// What the entry of this number put, where it still stands once a later entry makes a change: the
+    /// first node by it that stays where it stands, else the first that is copied. None where nothing
+    /// stands by it then. The nodes by one entry are found together, so that to ask for all numbers
+    /// passes all nodes once.
+    pub fn standing_by(&self, number: u64, change: &FileChange<'_>) -> Option<&Standing>
+        ensures { (later : ℕ) → later ≢ number → option_copied result
+            ≡ body_from (nodes_after (act_of change.now) self.now.nodes) (origins_after (act_of change.now) later self.now.origins) number }
     {
-        for planned in nodes {
-            self.add_planned(planned);
+        let nodes = self.table.nodes();
+        let found = self.numbers.nodes_of(number);
+        match first_standing(found, nodes, Part::Left, change) {
+            Some(standing) => Some(standing),
+            None => first_standing(found, nodes, Part::Copied, change),
         }
-    }
-
-    fn add_planned(&mut self, planned: PlannedNode)
-        requires room { 0 < self.old.room }
-        requires absent { node_at self.old.nodes planned.place ≡ None }
-        requires few { length self.old.nodes < 65536 }
-        requires light { total_size self.old.nodes + size_of planned.standing ≤ 268435456 }
-        ensures nodes { self.new.nodes ≡ self.old.nodes ++ planned ∷ [] }
-        ensures room { self.old.room ≤ self.new.room + 1 }
-    {
-        let (node, key, parent) = planned.into_parts();
-        self.add(node, key, parent);
-    }
-
-    fn replace(&mut self, index: usize, node: Node)
-        requires found { index_of self.old.nodes node.place ≡ Some index }
-        requires within { limit_of self.old.nodes node ≡ None }
-        ensures nodes { self.new.nodes ≡ with_node self.old.nodes node }
-        ensures room { self.old.room ≤ self.new.room + 1 }
-    {
-        let older = size_of(&self.nodes[index].standing);
-        self.total = self.total - older + size_of(&node.standing);
-        self.nodes[index] = node;
-    }
-
-    /// Lets a node stand where nothing stands, given with its place once more and the place that it
-    /// lies in.
-    fn add(&mut self, node: Node, key: Place, parent: Place)
-        requires room { 0 < self.old.room }
-        requires key { key ≡ node.place }
-        requires parent { parent ≡ parent_of node.place }
-        requires absent { index_of self.old.nodes node.place ≡ None }
-        requires few { length self.old.nodes < 65536 }
-        requires light { total_size self.old.nodes + size_of node.standing ≤ 268435456 }
-        ensures nodes { self.new.nodes ≡ self.old.nodes ++ node ∷ [] }
-        ensures room { self.old.room ≤ self.new.room + 1 }
-    {
-        let index = self.nodes.len() as u32;
-        let count = counted(self.children.get(&parent));
-        self.total += size_of(&node.standing);
-        let placed: Result<_, _> = self.places.insert(key, index);
-        let _before = placed.unwrap();
-        let counted: Result<_, _> = self.children.insert(parent, count + 1);
-        let _count = counted.unwrap();
-        self.nodes.push(node).unwrap();
     }
 }

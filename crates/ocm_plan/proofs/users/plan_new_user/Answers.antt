@@ -19,4 +19,4 @@ returns c = c.silent.ensures.plans _
     (rw (← c.is_taken.ensures, c.if-is_taken.false, ← c.user_count.ensures.count, ← c.is_full.ensures, c.if-is_full.false, ← c.in_ok-key.ensures.text, ← c.is_used.ensures, c.if-is_used.false) refl)
     refl refl
     (none-sent _ ∙ rw c.in_ok-user.ensures (sym (user-step _ _ c.args.fresh.now _)))
-    (record { few = rw (← c.user_count.ensures.count) (not_full 4096 c.user_count.result (sym c.is_full.ensures ∙ c.if-is_full.false)); key = rw c.in_ok-user.ensures (sym c.is_used.ensures ∙ c.if-is_used.false) })
+    (record { few = rw (← c.user_count.ensures.count) (not_full 4096 c.user_count.result (sym c.is_full.ensures ∙ c.if-is_full.false)); key = rw c.in_ok-user.ensures (sym c.is_used.ensures ∙ c.if-is_used.false) }) refl

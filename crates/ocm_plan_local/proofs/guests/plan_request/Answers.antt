@@ -31,4 +31,4 @@ returns c =
     refl refl
     (reshare-makes st c.args.key.now c.args.number c.args.with.now c.in_ok-copy.field-0 c.args.perms (Number (c.request_count-r.result + 1)) c.args.received.now.offer c.request_count-r.result c.in_ok-message.message c.in_ok-sent.sent
     own.found c.in_ok-copy.ensures c.request_count-r.ensures c.in_ok-message.ensures c.in_ok-sent.ensures.sent)
-    (record { few = c.requires.few; record_ = own.there })
+    (record { few = c.requires.few; record_ = own.there }) refl

@@ -84,4 +84,4 @@ returns c =
     (share-makes st c.args.key.now c.args.user c.args.path.now c.args.with.now c.args.perms c.args.fresh.now (Number (c.share_count-number.result + 1)) name secret c.in_ok-share.share c.in_ok-share-2.share c.in_ok-share-2.sent
     c.requires.user c.user_name-owner.ensures c.in_ok-secret.ensures.text made c.in_ok-share-2.ensures.share c.in_ok-share-2.ensures.sent)
     (share-fits st st.host c.args.user name c.args.path.now c.args.with.now c.args.perms secret c.in_ok-share.share c.in_ok-share-2.share made c.in_ok-share-2.ensures.share
-    (one-left 65536 (length st.shares) rows) unused (IfSome-account st.users c.args.key.now (Some c.args.user) (sym c.requires.user)) c.requires.short)
+    (one-left 65536 (length st.shares) rows) unused (IfSome-account st.users c.args.key.now (Some c.args.user) (sym c.requires.user)) c.requires.short) refl

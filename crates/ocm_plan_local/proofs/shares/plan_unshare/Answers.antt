@@ -16,7 +16,7 @@ returns-in_ok-sent-in-Ok c =
     (answered st c.args.key.now (commands.Unshare c.args.id) (Some c.args.user) Done c.requires (end-done (share_of_owner (view_in st) c.args.user c.args.id) (is_live_in (view_in st) c.args.id) c.in-Ok._share.now own.owned own.live))
     refl refl
     (unshare-makes st c.args.key.now c.args.id Done c.in_ok-ids-in-Ok.ids c.in_ok-sent-in-Ok.sent c.in_ok-ids-in-Ok.ensures c.in_ok-sent-in-Ok.ensures.sent)
-    own.there
+    own.there refl
 
 pub returns-in-Err : goal.returns-in-Err
 returns-in-Err c = c.refused.ensures.plans _ (answered c.args.tables.now.state c.args.key.now (commands.Unshare c.args.id) (Some c.args.user) (refused c.in-Err.why) c.requires c.in-Err.ensures.err)

@@ -26,4 +26,4 @@ returns c = λ fresh.
     let v = view_in st in
     let received = ap (λ (m : Mark). is_received v m.id m.secret) (sym c.in_ok-mark.ensures) ∙ (sym c.is_received.ensures ∙ c.if-not-is_received.false) in
     let held = ap (λ (m : Mark). is_held v m.id m.secret) (sym c.in_ok-mark.ensures) ∙ (sym c.is_held.ensures ∙ c.if-not-is_held.false) in
-    c.silent.ensures.plans _ (unshared-by v c.args.id.now c.args.secret.now fresh _ received) held refl (unshared-makes st c.args.id.now c.args.secret.now fresh c.in_ok-mark.mark c.in_ok-mark.ensures) tt
+    c.silent.ensures.plans _ (unshared-by v c.args.id.now c.args.secret.now fresh _ received) held refl (unshared-makes st c.args.id.now c.args.secret.now fresh c.in_ok-mark.mark c.in_ok-mark.ensures) tt refl

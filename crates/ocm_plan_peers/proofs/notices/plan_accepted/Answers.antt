@@ -27,8 +27,8 @@ returns-then-not-is_as_offered c = λ fresh.
     let there : at_number v.shares c.in-Some.number ≡ Some c.unwrap-share.result.now = sym c.share.ensures.share ∙ ap option_copied c.unwrap-share.ensures in
     let shared = shared-is v c.args.id.now c.args.secret.now c.in-Some.number c.unwrap-share.result.now (sym c.in-Some.is ∙ c.share_with.ensures) there in
     let live = sym c.is_live.ensures ∙ c.if-not-is_live.false in
-    let told : c.is_as_offered.result ≡ not (fails (same_address (record { user = c.in_ok-user.user.now.name; host = v.host })) (option_copied c.args.owner) || fails (same_address c.unwrap-share.result.now.with) (option_copied c.args.with) || fails (λ p. is_within p c.unwrap-share.result.now.granted) c.args.perms) = rw (← c.host.ensures) c.is_as_offered.ensures in
-    c.refused-then-not-is_as_offered.ensures.plans _ (accepted-other v c.in-Some.number c.unwrap-share.result.now c.in_ok-user.user.now _ _ c.args.perms c.is_as_offered.result live c.in_ok-user.ensures told c.if-not-is_as_offered.true ∙ accepted-by v c.args.id.now c.args.secret.now _ _ c.args.perms fresh _ shared)
+    let told : c.is_as_offered.result ≡ not (fails (same_address (record { user = c.owner_of-user.result.now.name; host = v.host })) (option_copied c.args.owner) || fails (same_address c.unwrap-share.result.now.with) (option_copied c.args.with) || fails (λ p. is_within p c.unwrap-share.result.now.granted) c.args.perms) = rw (← c.host.ensures) c.is_as_offered.ensures in
+    c.refused-then-not-is_as_offered.ensures.plans _ (accepted-other v c.in-Some.number c.unwrap-share.result.now c.owner_of-user.result.now _ _ c.args.perms c.is_as_offered.result live c.owner_of-user.ensures told c.if-not-is_as_offered.true ∙ accepted-by v c.args.id.now c.args.secret.now _ _ c.args.perms fresh _ shared)
 
 pub returns : goal.returns
 returns c = λ fresh.
@@ -36,5 +36,8 @@ returns c = λ fresh.
     let there : at_number v.shares c.in-Some.number ≡ Some c.unwrap-share.result.now = sym c.share.ensures.share ∙ ap option_copied c.unwrap-share.ensures in
     let shared = shared-is v c.args.id.now c.args.secret.now c.in-Some.number c.unwrap-share.result.now (sym c.in-Some.is ∙ c.share_with.ensures) there in
     let live = sym c.is_live.ensures ∙ c.if-not-is_live.false in
-    let told : c.is_as_offered.result ≡ not (fails (same_address (record { user = c.in_ok-user.user.now.name; host = v.host })) (option_copied c.args.owner) || fails (same_address c.unwrap-share.result.now.with) (option_copied c.args.with) || fails (λ p. is_within p c.unwrap-share.result.now.granted) c.args.perms) = rw (← c.host.ensures) c.is_as_offered.ensures in
-    c.only.ensures.plans _ (accepted-same v c.in-Some.number c.unwrap-share.result.now c.in_ok-user.user.now _ _ c.args.perms c.is_as_offered.result live c.in_ok-user.ensures told c.if-not-is_as_offered.false ∙ accepted-by v c.args.id.now c.args.secret.now _ _ c.args.perms fresh _ shared) refl
+    let told : c.is_as_offered.result ≡ not (fails (same_address (record { user = c.owner_of-user.result.now.name; host = v.host })) (option_copied c.args.owner) || fails (same_address c.unwrap-share.result.now.with) (option_copied c.args.with) || fails (λ p. is_within p c.unwrap-share.result.now.granted) c.args.perms) = rw (← c.host.ensures) c.is_as_offered.ensures in
+    c.only.ensures.plans _ (accepted-same v c.in-Some.number c.unwrap-share.result.now c.owner_of-user.result.now _ _ c.args.perms c.is_as_offered.result live c.owner_of-user.ensures told c.if-not-is_as_offered.false ∙ accepted-by v c.args.id.now c.args.secret.now _ _ c.args.perms fresh _ shared) refl
+
+pub owner_of-user-requires : goal.owner_of-user-requires
+owner_of-user-requires c = rw c.unwrap-share.ensures at c.share.ensures.owner

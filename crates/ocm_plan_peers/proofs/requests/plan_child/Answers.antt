@@ -18,5 +18,8 @@ returns c = λ id mark fresh is_named drawn grants answered.
     let made = c.in_ok-share.ensures in
     c.new.ensures.plans _ (ap (λ (n : ℕ). Child (n + 1)) c.share_count-id.ensures ∙ sym answered) (grows st c.share_count-id.result c.share_count-id.ensures) refl
     (ap (λ (s : Share). changed st (changes.AddShare s) c.in_ok-share-2.sent) c.in_ok-share-2.ensures.share
-    ∙ child-makes st id mark c.args.with.now c.args.sender_id.now c.args.asked fresh (Child (c.share_count-id.result + 1)) c.args.parent above c.in_ok-owner.owner.now c.args.granted.now c.args.secret c.in_ok-share.share c.in_ok-share-2.sent is_named there c.in_ok-owner.ensures grants drawn made c.in_ok-share-2.ensures.sent)
-    (rw c.in_ok-share-2.ensures.share (child-fits st c.args.parent above c.in_ok-owner.owner.now c.args.granted.now c.args.with.now c.args.sender_id.now c.args.asked c.args.secret c.in_ok-share.share c.requires.few c.requires.secret c.requires.parent c.in_ok-owner.ensures short made))
+    ∙ child-makes st id mark c.args.with.now c.args.sender_id.now c.args.asked fresh (Child (c.share_count-id.result + 1)) c.args.parent above c.owner_of-owner.result.now c.args.granted.now c.args.secret c.in_ok-share.share c.in_ok-share-2.sent is_named there c.owner_of-owner.ensures grants drawn made c.in_ok-share-2.ensures.sent)
+    (rw c.in_ok-share-2.ensures.share (child-fits st c.args.parent above c.owner_of-owner.result.now c.args.granted.now c.args.with.now c.args.sender_id.now c.args.asked c.args.secret c.in_ok-share.share c.requires.few c.requires.secret c.requires.parent c.owner_of-owner.ensures short made)) refl
+
+pub owner_of-owner-requires : goal.owner_of-owner-requires
+owner_of-owner-requires c = rw c.unwrap-above.ensures at c.share.ensures.owner

@@ -46,4 +46,4 @@ returns c =
     let there = message-there c.args.number (at_number v.messages c.args.number) c.in-Some.message.now (sym (ap option_copied c.in-Some.is) ∙ c.message.ensures) in
     let waits = sym c.is_settled.ensures ∙ c.if-is_settled.false in
     c.silent.ensures.plans _ (reply-done (at_number v.messages c.args.number) _ c.settles.result c.args.status _ there c.settles.ensures waits c.if-not-settles.false) (ap not waits) refl
-    (settle-makes st c.args.number c.args.status _ c.in_ok-outcome.outcome (c.in_ok-outcome.ensures.makes Done)) (message-row st c.args.number there, c.in_ok-outcome.ensures.fits)
+    (settle-makes st c.args.number c.args.status _ c.in_ok-outcome.outcome (c.in_ok-outcome.ensures.makes Done)) (message-row st c.args.number there, c.in_ok-outcome.ensures.fits) refl

@@ -16,4 +16,5 @@ invariant_of-self c =
     rw c.make-id.ensures.shares (record {
       each_told = c.self.invariant.each_told;
       owned = owned-share c.self.inside.users.users c.self.inside.shares.shares c.args.share c.self.invariant.owned c.requires.fits.root owner;
+      made = c.self.invariant.made;
     })

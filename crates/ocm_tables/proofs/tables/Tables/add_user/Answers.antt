@@ -11,4 +11,5 @@ pub invariant_of-self : goal.invariant_of-self
 invariant_of-self c = rw c.add.ensures.users (record {
   each_told = c.self.invariant.each_told;
   owned = owned-users c.self.inside.users.users c.args.user c.self.inside.shares.shares c.self.invariant.owned;
+  made = c.self.invariant.made;
 })

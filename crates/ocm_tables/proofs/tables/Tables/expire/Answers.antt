@@ -7,4 +7,5 @@ pub invariant_of-self : goal.invariant_of-self
 invariant_of-self c = rw c.expire.ensures.shares (record {
   each_told = c.self.invariant.each_told;
   owned = all-changed (is_owned c.self.inside.users.users) c.args.id _ c.self.inside.shares.shares (λ row. refl) ∙ c.self.invariant.owned;
+  made = c.self.invariant.made;
 })

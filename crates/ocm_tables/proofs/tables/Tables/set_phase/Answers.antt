@@ -15,6 +15,7 @@ pub invariant_of-self : goal.invariant_of-self
 invariant_of-self c = rw c.set_phase.ensures.records (record {
   each_told = c.self.invariant.each_told ∙ sym (changed_at-length c.args.number _ c.self.inside.inbox.records);
   owned = c.self.invariant.owned;
+  made = c.self.invariant.made;
 })
 
 pub returns-clause-state : goal.returns-clause-state

@@ -14,6 +14,7 @@ pub invariant_of-self : goal.invariant_of-self
 invariant_of-self c = rw (c.tell_all.ensures, c.as_slice.ensures) (record {
   each_told = told_all-length c.args.numbers.now (record { serial = c.args.serial; perms = c.args.perms }) c.self.inside.board.told ∙ c.self.invariant.each_told;
   owned = c.self.invariant.owned;
+  made = c.self.invariant.made;
 })
 
 pub returns-clause-state : goal.returns-clause-state

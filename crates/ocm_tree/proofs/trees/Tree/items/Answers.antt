@@ -10,6 +10,6 @@ pub returns : goal.returns
 returns c =
     let place = c.args.place.now in
     let path = c.args.path.now in
-    let told : c.in_ok-items.items ≡ items_in c.deref.result.now place path =
-    c.in_ok-items.ensures ∙ ap (map (λ (child : Child). child.item)) c.in_ok-children.ensures ∙ items-children place path (children c.deref.result.now place) in
-    rw (← c.self.view_is) (told ∙ ap (λ ns. items_in ns place path) c.deref.ensures.value)
+    let told : c.in_ok-items.items ≡ items_in c.nodes.result.now place path =
+    c.in_ok-items.ensures ∙ ap (map (λ (child : Child). child.item)) c.in_ok-children.ensures ∙ items-children place path (children c.nodes.result.now place) in
+    rw (← c.self.view_is) (told ∙ ap (λ ns. items_in ns place path) c.nodes.ensures.nodes)

@@ -4,5 +4,5 @@ use Rattle.ocm_tree.proofs.trees.Tree.plan_carry.Goals as goal
 
 pub new-requires : goal.new-requires
 new-requires c = record {
-  within = rw c.deref.ensures.value (limit_of_carry-paths c.self.inside.nodes.items c.args.from.now c.args.to.now c.args.moving (node_at c.self.inside.nodes.items c.args.from.now) (rw (← c.self.view_is) at c.requires.within));
+  within = rw c.nodes.ensures.nodes (limit_of_carry-paths c.self.inside.table.nodes c.args.from.now c.args.to.now c.args.moving (node_at c.self.inside.table.nodes c.args.from.now) (rw (← c.self.view_is) at c.requires.within));
 }
