@@ -10,7 +10,7 @@ use crate::faults::{Field, RecordFault};
 use crate::kinds::{interface, object_at, objects_at, present, text_of, yes_or_no};
 use crate::opening::fields_of;
 use crate::values::{Discovery, ErrorBody, FieldNote};
-use ocm_base::{List, Text};
+use ocm_base::{List, Text, and};
 use ocm_json::FieldsRef;
 use std::alloc::Global;
 
@@ -41,8 +41,10 @@ fn discovery(alloc: Global, fields: FieldsRef<'_>) -> Result<Discovery, RecordFa
 {
     let enabled = yes_or_no(fields, Field::Enabled)?;
     let version = text_of(alloc, fields, Field::ApiVersion, 1, 64)?;
-    let end_point = text_of(alloc, fields, Field::EndPoint, 1, 1024)?;
-    let webdav = webdav_among(alloc, fields)?;
+    let end_point = text_of(alloc, fields, Field::EndPoint, 1, 1024);
+    let (version, end_point) = and(version, end_point)?;
+    let (texts, webdav) = and((version, end_point), webdav_among(alloc, fields))?;
+    let (version, end_point) = texts;
     Ok(Discovery {
         enabled,
         version,
@@ -104,8 +106,9 @@ fn error(alloc: Global, fields: FieldsRef<'_>) -> Result<ErrorBody, RecordFault>
     ensures sound { IfOk result (λ e. documents.is_error e ≡ true) }
 {
     let message = text_of(alloc, fields, Field::Message, 0, 1024)?;
-    let objects = objects_at(alloc, fields, Field::ValidationErrors)?;
-    let errors = notes_of(alloc, objects)?;
+    let objects = objects_at(alloc, fields, Field::ValidationErrors);
+    let (message, objects) = and(message, objects)?;
+    let (message, errors) = and(message, notes_of(alloc, objects))?;
     Ok(ErrorBody { message, errors })
 }
 
@@ -144,6 +147,7 @@ fn note(alloc: Global, fields: FieldsRef<'_>) -> Result<FieldNote, RecordFault>
     ensures sound { IfOk result (λ n. documents.is_note n ≡ true) }
 {
     let message = text_of(alloc, fields, Field::Message, 0, 1024)?;
-    let name = text_of(alloc, fields, Field::Name, 0, 1024)?;
+    let name = text_of(alloc, fields, Field::Name, 0, 1024);
+    let (message, name) = and(message, name)?;
     Ok(FieldNote { message, name })
 }

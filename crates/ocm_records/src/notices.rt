@@ -11,6 +11,7 @@ use crate::kinds::{
     address, perms, provider_id, secret, sender_id, serial, some_address, some_object, some_perms,
 };
 use crate::opening::fields_of;
+use ocm_base::and;
 use ocm_json::FieldsRef;
 use ocm_types::{Notice, ProviderId, Secret};
 use std::alloc::Global;
@@ -30,8 +31,8 @@ fn notice(alloc: Global, fields: FieldsRef<'_>) -> Result<Notice, RecordFault>
     let event = notification_type(fields)?;
     resource_type(fields)?;
     let id = provider_id(alloc, fields, Field::ProviderId)?;
-    let notification = some_object(fields, Field::Notification)?;
-    let secret = secret(alloc, notification, Field::SharedSecret)?;
+    let (id, notification) = and(id, some_object(fields, Field::Notification))?;
+    let (id, secret) = and(id, secret(alloc, notification, Field::SharedSecret))?;
     told(alloc, event, id, secret, notification)
 }
 
@@ -64,9 +65,10 @@ fn accepted(
 ) -> Result<Notice, RecordFault>
     ensures { Gives (λ n. n) result (notices.accepted id secret (data_at notification.entry)) }
 {
-    let owner = address(alloc, notification, Field::Owner)?;
-    let with = address(alloc, notification, Field::ShareWith)?;
-    let perms = perms(alloc, notification, Field::Permissions)?;
+    let read = and((id, secret), address(alloc, notification, Field::Owner))?;
+    let read = and(read, address(alloc, notification, Field::ShareWith))?;
+    let (read, perms) = and(read, perms(alloc, notification, Field::Permissions))?;
+    let (((id, secret), owner), with) = read;
     Ok(Notice::Accepted {
         id,
         secret,
@@ -85,9 +87,13 @@ fn reshare_request(
 ) -> Result<Notice, RecordFault>
     ensures { Gives (λ n. n) result (notices.reshare_request id secret (data_at notification.entry)) }
 {
-    let with = some_address(alloc, notification, Field::ShareWith)?;
-    let sender_id = sender_id(alloc, notification, Field::SenderId)?;
-    let perms = perms(alloc, notification, Field::Permissions)?;
+    let read = and(
+        (id, secret),
+        some_address(alloc, notification, Field::ShareWith),
+    )?;
+    let read = and(read, sender_id(alloc, notification, Field::SenderId))?;
+    let (read, perms) = and(read, perms(alloc, notification, Field::Permissions))?;
+    let (((id, secret), with), sender_id) = read;
     Ok(Notice::ReshareRequest {
         id,
         secret,
@@ -106,8 +112,9 @@ fn changed(
 ) -> Result<Notice, RecordFault>
     ensures { Gives (λ n. n) result (notices.changed id secret (data_at notification.entry)) }
 {
-    let serial = serial(notification, Field::Serial)?;
-    let perms = some_perms(alloc, notification, Field::Permissions)?;
+    let (marks, serial) = and((id, secret), serial(notification, Field::Serial))?;
+    let (marks, perms) = and(marks, some_perms(alloc, notification, Field::Permissions))?;
+    let (id, secret) = marks;
     Ok(Notice::Changed {
         id,
         secret,

@@ -11,6 +11,7 @@ use crate::kinds::{
     address, object_at, perms, present, provider_id, secret, share_name, some_address, some_object,
 };
 use crate::opening::fields_of;
+use ocm_base::and;
 use ocm_json::FieldsRef;
 use ocm_types::{Address, Offer, Perms, ProviderId, Rights, Secret, ShareName};
 use std::alloc::Global;
@@ -71,8 +72,7 @@ fn access(alloc: Global, fields: FieldsRef<'_>) -> Result<(Secret, Perms), Recor
     let form = protocol_name(protocol)?;
     let inner = access_in(form, protocol)?;
     let secret = secret(alloc, inner, Field::SharedSecret)?;
-    let perms = perms_in(alloc, form, inner)?;
-    Ok((secret, perms))
+    and(secret, perms_in(alloc, form, inner))
 }
 
 /// Whose share it is that is passed on: the owner's, where no other is named.
@@ -94,8 +94,7 @@ fn recipient(alloc: Global, fields: FieldsRef<'_>) -> Result<(Address, ShareName
     ensures { Gives (λ x. (x.0, x.1)) result (offers.recipient (data_at fields.entry)) }
 {
     let with = some_address(alloc, fields, Field::ShareWith)?;
-    let name = share_name(alloc, fields, Field::Name)?;
-    Ok((with, name))
+    and(with, share_name(alloc, fields, Field::Name))
 }
 
 /// The owner's mark, the owner, and whose share it is that is passed on.
@@ -107,8 +106,9 @@ fn origin(
     ensures { Gives (λ x. (x.0, x.1, x.2)) result (offers.origin (data_at fields.entry)) }
 {
     let id = provider_id(alloc, fields, Field::ProviderId)?;
-    let owner = some_address(alloc, fields, Field::Owner)?;
-    let sender = sender_or(alloc, &owner, fields)?;
+    let (id, owner) = and(id, some_address(alloc, fields, Field::Owner))?;
+    let sender = sender_or(alloc, &owner, fields);
+    let ((id, owner), sender) = and((id, owner), sender)?;
     Ok((id, owner, sender))
 }
 
@@ -126,10 +126,11 @@ fn kinds(fields: FieldsRef<'_>) -> Result<bool, RecordFault>
 fn offer(alloc: Global, fields: FieldsRef<'_>) -> Result<Offer, RecordFault>
     ensures { Gives (λ o. o) result (offers.by_groups (data_at fields.entry)) }
 {
-    let (with, name) = recipient(alloc, fields)?;
-    let (id, owner, sender) = origin(alloc, fields)?;
-    kinds(fields)?;
-    let (secret, perms) = access(alloc, fields)?;
+    let read = recipient(alloc, fields)?;
+    let read = and(read, origin(alloc, fields))?;
+    let (read, _) = and(read, kinds(fields))?;
+    let (read, (secret, perms)) = and(read, access(alloc, fields))?;
+    let ((with, name), (id, owner, sender)) = read;
     Ok(Offer {
         with,
         name,

@@ -9,6 +9,7 @@ use crate::events::Event;
 use crate::faults::LineFault;
 use crate::next_words::{next_address, next_host, next_number, next_path, next_secret};
 use crate::words::{ended, fresh_word, perms_if_word, perms_word, word};
+use ocm_base::and;
 use ocm_entry::Cmd;
 use ocm_types::Host;
 use std::alloc::Global;
@@ -20,14 +21,15 @@ pub fn share_line(alloc: Global, named: &[Host], rest: Option<&[u8]>) -> Result<
     ensures short { IfOk result (λ event. IsTrue (has_short_paths event)) }
 {
     let (host, rest) = next_host(named, rest)?;
-    let (key, rest) = next_secret(alloc, rest)?;
-    let (path, rest) = next_path(alloc, rest)?;
-    let (with, rest) = next_address(alloc, rest)?;
-    let (perms, rest) = word(rest)?;
-    let perms = perms_word(perms)?;
-    let (fresh, rest) = word(rest)?;
-    let fresh = fresh_word(fresh)?;
-    ended(rest)?;
+    let (read, (key, rest)) = and(host, next_secret(alloc, rest))?;
+    let (read, (path, rest)) = and((read, key), next_path(alloc, rest))?;
+    let (read, (with, rest)) = and((read, path), next_address(alloc, rest))?;
+    let (read, (perms, rest)) = and((read, with), word(rest))?;
+    let (read, perms) = and(read, perms_word(perms))?;
+    let (read, (fresh, rest)) = and(read, word(rest))?;
+    let (read, fresh) = and(read, fresh_word(fresh))?;
+    let (read, ()) = and(read, ended(rest))?;
+    let (((host, key), path), with) = read;
     Ok(Event::Local {
         host,
         key,
@@ -47,9 +49,9 @@ pub fn unshare_line(alloc: Global, named: &[Host], rest: Option<&[u8]>) -> Resul
     ensures short { IfOk result (λ event. IsTrue (has_short_paths event)) }
 {
     let (host, rest) = next_host(named, rest)?;
-    let (key, rest) = next_secret(alloc, rest)?;
-    let (id, rest) = next_number(rest)?;
-    ended(rest)?;
+    let (read, (key, rest)) = and(host, next_secret(alloc, rest))?;
+    let (read, (id, rest)) = and((read, key), next_number(rest))?;
+    let ((host, key), ()) = and(read, ended(rest))?;
     Ok(Event::Local {
         host,
         key,
@@ -64,11 +66,12 @@ pub fn limit_line(alloc: Global, named: &[Host], rest: Option<&[u8]>) -> Result<
     ensures short { IfOk result (λ event. IsTrue (has_short_paths event)) }
 {
     let (host, rest) = next_host(named, rest)?;
-    let (key, rest) = next_secret(alloc, rest)?;
-    let (id, rest) = next_number(rest)?;
-    let (perms, rest) = word(rest)?;
-    let perms = perms_word(perms)?;
-    ended(rest)?;
+    let (read, (key, rest)) = and(host, next_secret(alloc, rest))?;
+    let (read, (id, rest)) = and((read, key), next_number(rest))?;
+    let (read, (perms, rest)) = and(read, word(rest))?;
+    let (read, perms) = and(read, perms_word(perms))?;
+    let (read, ()) = and(read, ended(rest))?;
+    let (host, key) = read;
     Ok(Event::Local {
         host,
         key,
@@ -83,9 +86,9 @@ pub fn accept_line(alloc: Global, named: &[Host], rest: Option<&[u8]>) -> Result
     ensures short { IfOk result (λ event. IsTrue (has_short_paths event)) }
 {
     let (host, rest) = next_host(named, rest)?;
-    let (key, rest) = next_secret(alloc, rest)?;
-    let (number, rest) = next_number(rest)?;
-    ended(rest)?;
+    let (read, (key, rest)) = and(host, next_secret(alloc, rest))?;
+    let (read, (number, rest)) = and((read, key), next_number(rest))?;
+    let ((host, key), ()) = and(read, ended(rest))?;
     Ok(Event::Local {
         host,
         key,
@@ -100,9 +103,9 @@ pub fn decline_line(alloc: Global, named: &[Host], rest: Option<&[u8]>) -> Resul
     ensures short { IfOk result (λ event. IsTrue (has_short_paths event)) }
 {
     let (host, rest) = next_host(named, rest)?;
-    let (key, rest) = next_secret(alloc, rest)?;
-    let (number, rest) = next_number(rest)?;
-    ended(rest)?;
+    let (read, (key, rest)) = and(host, next_secret(alloc, rest))?;
+    let (read, (number, rest)) = and((read, key), next_number(rest))?;
+    let ((host, key), ()) = and(read, ended(rest))?;
     Ok(Event::Local {
         host,
         key,
@@ -117,12 +120,13 @@ pub fn reshare_line(alloc: Global, named: &[Host], rest: Option<&[u8]>) -> Resul
     ensures short { IfOk result (λ event. IsTrue (has_short_paths event)) }
 {
     let (host, rest) = next_host(named, rest)?;
-    let (key, rest) = next_secret(alloc, rest)?;
-    let (number, rest) = next_number(rest)?;
-    let (with, rest) = next_address(alloc, rest)?;
-    let (perms, rest) = word(rest)?;
-    let perms = perms_if_word(perms)?;
-    ended(rest)?;
+    let (read, (key, rest)) = and(host, next_secret(alloc, rest))?;
+    let (read, (number, rest)) = and((read, key), next_number(rest))?;
+    let (read, (with, rest)) = and(read, next_address(alloc, rest))?;
+    let (read, (perms, rest)) = and((read, with), word(rest))?;
+    let (read, perms) = and(read, perms_if_word(perms))?;
+    let (read, ()) = and(read, ended(rest))?;
+    let ((host, key), with) = read;
     Ok(Event::Local {
         host,
         key,
@@ -141,9 +145,9 @@ pub fn undo_line(alloc: Global, named: &[Host], rest: Option<&[u8]>) -> Result<E
     ensures short { IfOk result (λ event. IsTrue (has_short_paths event)) }
 {
     let (host, rest) = next_host(named, rest)?;
-    let (key, rest) = next_secret(alloc, rest)?;
-    let (request, rest) = next_number(rest)?;
-    ended(rest)?;
+    let (read, (key, rest)) = and(host, next_secret(alloc, rest))?;
+    let (read, (request, rest)) = and((read, key), next_number(rest))?;
+    let ((host, key), ()) = and(read, ended(rest))?;
     Ok(Event::Local {
         host,
         key,
@@ -158,8 +162,8 @@ pub fn list_line(alloc: Global, named: &[Host], rest: Option<&[u8]>) -> Result<E
     ensures short { IfOk result (λ event. IsTrue (has_short_paths event)) }
 {
     let (host, rest) = next_host(named, rest)?;
-    let (key, rest) = next_secret(alloc, rest)?;
-    ended(rest)?;
+    let (read, (key, rest)) = and(host, next_secret(alloc, rest))?;
+    let ((host, key), ()) = and((read, key), ended(rest))?;
     Ok(Event::Local {
         host,
         key,
@@ -174,10 +178,10 @@ pub fn expire_line(alloc: Global, named: &[Host], rest: Option<&[u8]>) -> Result
     ensures short { IfOk result (λ event. IsTrue (has_short_paths event)) }
 {
     let (host, rest) = next_host(named, rest)?;
-    let (key, rest) = next_secret(alloc, rest)?;
-    let (id, rest) = next_number(rest)?;
-    let (until, rest) = next_number(rest)?;
-    ended(rest)?;
+    let (read, (key, rest)) = and(host, next_secret(alloc, rest))?;
+    let (read, (id, rest)) = and((read, key), next_number(rest))?;
+    let (read, (until, rest)) = and(read, next_number(rest))?;
+    let ((host, key), ()) = and(read, ended(rest))?;
     Ok(Event::Local {
         host,
         key,

@@ -10,6 +10,7 @@ use crate::events::Event;
 use crate::faults::LineFault;
 use crate::next_words::{next_host, next_overwrite, next_path, next_secret};
 use crate::words::{ended, remaining};
+use ocm_base::and;
 use ocm_entry::Method;
 use ocm_types::Host;
 use std::alloc::Global;
@@ -26,9 +27,9 @@ pub fn dav_line(
     ensures short { IfOk result (λ event. IsTrue (has_short_paths event)) }
 {
     let (host, rest) = next_host(named, rest)?;
-    let (secret, rest) = next_secret(alloc, rest)?;
-    let (path, rest) = next_path(alloc, rest)?;
-    ended(rest)?;
+    let (read, (secret, rest)) = and(host, next_secret(alloc, rest))?;
+    let (read, (path, rest)) = and((read, secret), next_path(alloc, rest))?;
+    let (((host, secret), path), ()) = and((read, path), ended(rest))?;
     Ok(Event::Dav {
         host,
         secret,
@@ -44,10 +45,11 @@ pub fn put_line(alloc: Global, named: &[Host], rest: Option<&[u8]>) -> Result<Ev
     ensures short { IfOk result (λ event. IsTrue (has_short_paths event)) }
 {
     let (host, rest) = next_host(named, rest)?;
-    let (secret, rest) = next_secret(alloc, rest)?;
-    let (path, rest) = next_path(alloc, rest)?;
-    let bytes = remaining(rest)?;
-    let body = body_of(alloc, bytes)?;
+    let (read, (secret, rest)) = and(host, next_secret(alloc, rest))?;
+    let (read, (path, rest)) = and((read, secret), next_path(alloc, rest))?;
+    let (read, bytes) = and((read, path), remaining(rest))?;
+    let (read, body) = and(read, body_of(alloc, bytes))?;
+    let ((host, secret), path) = read;
     Ok(Event::Put {
         host,
         secret,
@@ -68,11 +70,12 @@ pub fn carry_line(
     ensures short { IfOk result (λ event. IsTrue (has_short_paths event)) }
 {
     let (host, rest) = next_host(named, rest)?;
-    let (secret, rest) = next_secret(alloc, rest)?;
-    let (from, rest) = next_path(alloc, rest)?;
-    let (to, rest) = next_path(alloc, rest)?;
-    let (overwrite, rest) = next_overwrite(rest)?;
-    ended(rest)?;
+    let (read, (secret, rest)) = and(host, next_secret(alloc, rest))?;
+    let (read, (from, rest)) = and((read, secret), next_path(alloc, rest))?;
+    let (read, (to, rest)) = and((read, from), next_path(alloc, rest))?;
+    let (read, (overwrite, rest)) = and((read, to), next_overwrite(rest))?;
+    let (read, ()) = and(read, ended(rest))?;
+    let (((host, secret), from), to) = read;
     Ok(Event::Carry {
         host,
         secret,

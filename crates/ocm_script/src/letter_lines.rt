@@ -12,6 +12,7 @@ use crate::events::Event;
 use crate::faults::LineFault;
 use crate::next_words::{next_digits, next_host, next_number};
 use crate::words::{ended, fresh_word, remaining, word};
+use ocm_base::and;
 use ocm_records::{RecordFault, read_notice, read_offer};
 use ocm_types::{Host, Notice, Offer};
 use std::alloc::Global;
@@ -45,8 +46,8 @@ pub fn offer_line(alloc: Global, named: &[Host], rest: Option<&[u8]>) -> Result<
     ensures short { IfOk result (λ event. IsTrue (has_short_paths event)) }
 {
     let (host, rest) = next_host(named, rest)?;
-    let bytes = remaining(rest)?;
-    let offer = offer_in(alloc, bytes)?;
+    let (host, bytes) = and(host, remaining(rest))?;
+    let (host, offer) = and(host, offer_in(alloc, bytes))?;
     Ok(Event::Offer { host, offer })
 }
 
@@ -57,10 +58,10 @@ pub fn notice_line(alloc: Global, named: &[Host], rest: Option<&[u8]>) -> Result
     ensures short { IfOk result (λ event. IsTrue (has_short_paths event)) }
 {
     let (host, rest) = next_host(named, rest)?;
-    let (fresh, rest) = word(rest)?;
-    let fresh = fresh_word(fresh)?;
-    let bytes = remaining(rest)?;
-    let notice = notice_in(alloc, bytes)?;
+    let (host, (fresh, rest)) = and(host, word(rest))?;
+    let (host, fresh) = and(host, fresh_word(fresh))?;
+    let (host, bytes) = and(host, remaining(rest))?;
+    let (host, notice) = and(host, notice_in(alloc, bytes))?;
     Ok(Event::Notice {
         host,
         fresh,
@@ -75,10 +76,10 @@ pub fn deliver_line(named: &[Host], lost: bool, rest: Option<&[u8]>) -> Result<E
     ensures short { IfOk result (λ event. IsTrue (has_short_paths event)) }
 {
     let (host, rest) = next_host(named, rest)?;
-    let (number, rest) = next_number(rest)?;
-    let (fresh, rest) = word(rest)?;
-    let fresh = fresh_word(fresh)?;
-    ended(rest)?;
+    let (host, (number, rest)) = and(host, next_number(rest))?;
+    let (host, (fresh, rest)) = and(host, word(rest))?;
+    let (host, fresh) = and(host, fresh_word(fresh))?;
+    let (host, ()) = and(host, ended(rest))?;
     Ok(Event::Deliver {
         host,
         number,
@@ -94,8 +95,8 @@ pub fn pump_line(named: &[Host], rest: Option<&[u8]>) -> Result<Event, LineFault
     ensures short { IfOk result (λ event. IsTrue (has_short_paths event)) }
 {
     let (host, rest) = next_host(named, rest)?;
-    let (fresh, rest) = word(rest)?;
-    let fresh = fresh_word(fresh)?;
-    ended(rest)?;
+    let (host, (fresh, rest)) = and(host, word(rest))?;
+    let (host, fresh) = and(host, fresh_word(fresh))?;
+    let (host, ()) = and(host, ended(rest))?;
     Ok(Event::Pump { host, fresh })
 }

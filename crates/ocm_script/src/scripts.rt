@@ -1,4 +1,4 @@
-ghost use Rattle.std.specs.Prelude.{◌≡◌, ◌≢◌, ◌<◌, ◌≤◌, ◌↔◌, [], length, Err, IfOk, IsTrue, OnOk};
+ghost use Rattle.std.specs.Prelude.{◌≡◌, ◌≢◌, ◌<◌, ◌≤◌, ◌↔◌, ◌∷◌, ◌++◌, [], length, Err, IfOk, IsTrue, OnOk};
 ghost use Rattle.std.specs.List.{list_all};
 ghost use Rattle.ocm_script.specs.Events.{has_short_paths};
 ghost use Rattle.ocm_script.specs.Lines.{lines_of, most_lines};
@@ -9,7 +9,7 @@ use crate::events::Event;
 use crate::faults::{LineFault, ScriptFault};
 use crate::forms::event_of;
 use crate::lines::{count_lines, first_line};
-use ocm_base::{List, NoMemory};
+use ocm_base::{List, NoMemory, and};
 use ocm_types::Host;
 use std::alloc::Global;
 
@@ -42,6 +42,16 @@ fn name_node(named: &mut List<Host>, event: &Event) -> Result<(), NoMemory>
     Ok(())
 }
 
+/// Adds the event of a further line, and names the host of the server that it makes.
+fn add_event(events: &mut List<Event>, named: &mut List<Host>, event: Event) -> Result<(), NoMemory>
+    ensures events { OnOk result (events.new ≡ events.old ++ event ∷ []) }
+    ensures named { OnOk result (named.new ≡ script.named_after named.old event) }
+{
+    let done = name_node(named, &event);
+    let (event, ()) = and(event, done)?;
+    events.push(event)
+}
+
 /// The events of at most so many lines.
 fn events_of(alloc: Global, bytes: &[u8]) -> Result<List<Event>, ScriptFault>
     requires { length (lines_of bytes.now) ≤ most_lines }
@@ -58,11 +68,22 @@ fn events_of(alloc: Global, bytes: &[u8]) -> Result<List<Event>, ScriptFault>
         let (line, behind) = first_line(rest);
         let event = match event_of(alloc, named.as_slice(), line) {
             Ok(event) => event,
-            Err(LineFault::Bad) => return Err(ScriptFault::Line(number)),
-            Err(LineFault::NoMemory) => return Err(ScriptFault::NoMemory),
+            Err(LineFault::Bad) => {
+                drop(named);
+                drop(events);
+                return Err(ScriptFault::Line(number));
+            }
+            Err(LineFault::NoMemory) => {
+                drop(named);
+                drop(events);
+                return Err(ScriptFault::NoMemory);
+            }
         };
-        name_node(&mut named, &event)?;
-        events.push(event)?;
+        if add_event(&mut events, &mut named, event).is_err() {
+            drop(named);
+            drop(events);
+            return Err(ScriptFault::NoMemory);
+        }
         rest = behind;
         number += 1;
     }

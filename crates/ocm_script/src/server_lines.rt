@@ -9,6 +9,7 @@ use crate::events::Event;
 use crate::faults::LineFault;
 use crate::next_words::{next_host, next_name, next_new_host, next_number};
 use crate::words::{ended, fresh_word, word};
+use ocm_base::and;
 use ocm_types::Host;
 use std::alloc::Global;
 
@@ -19,7 +20,7 @@ pub fn node_line(alloc: Global, named: &[Host], rest: Option<&[u8]>) -> Result<E
     ensures short { IfOk result (λ event. IsTrue (has_short_paths event)) }
 {
     let (host, rest) = next_new_host(alloc, named, rest)?;
-    ended(rest)?;
+    let (host, ()) = and(host, ended(rest))?;
     Ok(Event::Node { host })
 }
 
@@ -30,10 +31,10 @@ pub fn user_line(alloc: Global, named: &[Host], rest: Option<&[u8]>) -> Result<E
     ensures short { IfOk result (λ event. IsTrue (has_short_paths event)) }
 {
     let (host, rest) = next_host(named, rest)?;
-    let (name, rest) = next_name(alloc, rest)?;
-    let (fresh, rest) = word(rest)?;
-    let fresh = fresh_word(fresh)?;
-    ended(rest)?;
+    let (read, (name, rest)) = and(host, next_name(alloc, rest))?;
+    let (read, (fresh, rest)) = and((read, name), word(rest))?;
+    let (read, fresh) = and(read, fresh_word(fresh))?;
+    let ((host, name), ()) = and(read, ended(rest))?;
     Ok(Event::User { host, name, fresh })
 }
 
@@ -44,7 +45,7 @@ pub fn clock_line(named: &[Host], rest: Option<&[u8]>) -> Result<Event, LineFaul
     ensures short { IfOk result (λ event. IsTrue (has_short_paths event)) }
 {
     let (host, rest) = next_host(named, rest)?;
-    let (clock, rest) = next_number(rest)?;
-    ended(rest)?;
+    let (host, (clock, rest)) = and(host, next_number(rest))?;
+    let (host, ()) = and(host, ended(rest))?;
     Ok(Event::Clock { host, clock })
 }

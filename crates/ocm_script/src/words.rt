@@ -291,6 +291,7 @@ pub fn new_host(alloc: Global, named: &[Host], word: &[u8]) -> Result<Host, Line
 {
     let host = host_word(alloc, word)?;
     if named.len() >= MOST_NODES || is_named(named, &host) {
+        drop(host);
         return Err(LineFault::Bad);
     }
     Ok(host)
