@@ -11,3 +11,5 @@ pub mod ReadStreams
 pub mod UnderWay
 pub mod Stable
 pub mod Unique
+pub mod Cuts
+pub mod Requests

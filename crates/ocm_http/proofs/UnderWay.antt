@@ -8,7 +8,7 @@ use Rattle.ocm_heads.specs.Endings.{of_head}
 use Rattle.ocm_http.specs.Places.{past}
 use Rattle.ocm_http.specs.Frames.{Frame, Given, Refused, Over, IsFrame}
 use Rattle.ocm_http.specs.Stages.{Goes, Makes, Faults, Ends, Rest}
-use Rattle.ocm_http.specs.Readers.{ReadingOf, MessageOf, Under, taken_at_most}
+use Rattle.ocm_http.specs.Readers.{ReaderState, ReadingOf, MessageOf, Spends, Under, Keeps, holding, taken_at_most}
 use Rattle.ocm_http.specs.declared.messages.Kind.{Kind}
 use Rattle.ocm_http.specs.declared.messages.Message.{Message}
 use Rattle.ocm_http.specs.declared.messages.FrameFault.{FrameFault}
@@ -161,12 +161,33 @@ under_fault rules before after held left at_stage spent fault u faults other = (
   },
 )
 
-pub under_taken : (rules : Rules) (before after : Option (List ℕ)) (held left : List ℕ) (at_stage : Stage) (spent : ℕ)
-    → Under rules before after held left at_stage spent → length left ≤ 4096 → (got : List ℕ) × Takes before after got × (length got ≤ taken_at_most rules.max)
-under_taken rules before after held left at_stage spent u few =
+pub under_spends : (rules : Rules) (before after : Option (List ℕ)) (held left : List ℕ) (at_stage : Stage) (spent : ℕ)
+    → Under rules before after held left at_stage spent → length left ≤ 4096 → Spends rules.max held before after left spent
+under_spends rules before after held left at_stage spent u few =
     let size : length held + length u.got ≡ length u.gone + length left = sym (length-append held u.got) ∙ (ap length u.split ∙ length-append u.gone left) in
     let counts = u.counts in
-    (u.got, u.taken, omega arith)
+    record {
+      got = u.got;
+      taken = u.taken;
+      few = omega arith;
+      gone = u.gone;
+      split = u.split;
+      counted = u.spent_is;
+    }
+
+pub under_spent : (rules : Rules) (before after : Option (List ℕ)) (held left : List ℕ) (at_stage : Stage) (spent n : ℕ) (m : Message)
+    → Under rules before after held left at_stage spent → length left ≤ 4096 → Makes rules at_stage m left n → Spends rules.max held before after (drop n left) (past spent n)
+unfolding under_spends
+under_spent rules before after held left at_stage spent n m u few makes =
+    let all = under_spends rules before after held left at_stage spent u few in
+    record {
+      got = all.got;
+      taken = all.taken;
+      few = all.few;
+      gone = u.gone ++ take n left;
+      split = parted held u.got u.gone left n u.split;
+      counted = gone_count u.gone left n spent makes.within u.spent_is;
+    }
 
 -- the count of a message's bytes, past the place where it began
 pub placed : (kind : Kind) (max place : ℕ) (held : List ℕ) (before after : Option (List ℕ)) (frame : Frame) (left : List ℕ) (count : ℕ)
@@ -182,12 +203,6 @@ placed kind max place held before after frame left count m = record {
     past_of_past : (p n : ℕ) → past p (past 0 n) ≡ past p n
     past_of_past p n = grind arith
 
--- the same of a message, where one was given
-pub placed_some : (kind : Kind) (max place : ℕ) (held : List ℕ) (before after : Option (List ℕ)) (left : List ℕ) (count : ℕ) (read : Option Message)
-    → IfSome read (λ m. MessageOf kind max place held before after (Given m left) left 0 count) → IfSome read (λ m. MessageOf kind max place held before after (Given m left) left place (past place count))
-placed_some kind max place held before after left count None given = given
-placed_some kind max place held before after left count (Some m) given = placed kind max place held before after (Given m left) left count given
-
 -- what the end of input makes of a message, where it makes one
 pub ended_message : (rules : Rules) (before after : Option (List ℕ)) (held left : List ℕ) (at_stage : Stage) (spent : ℕ) (r : Result (Option Message) FrameFault)
     → Under rules before after held left at_stage spent → left ≡ [] → IfSome after (λ rest. rest ≡ []) → IfOk r (Ends rules at_stage)
@@ -202,3 +217,63 @@ pub ended_over : (rules : Rules) (before after : Option (List ℕ)) (held left :
 ended_over rules before after held left at_stage spent (Ok None) u none told ends = λ _. under_ended rules before after held left at_stage spent Over u none told ends
 ended_over rules before after held left at_stage spent (Ok (Some m)) u none told ends = λ h. cc
 ended_over rules before after held left at_stage spent (Err f) u none told ends = tt
+
+-- ---- what a reader holds
+
+-- the bytes that were taken, and what is kept of them
+abbrev pub Kept : ReaderState → ReaderState → Option (List ℕ) → Option (List ℕ) → Result (Option Message) FrameFault → Type 0
+Kept old new before after result = (got : List ℕ) × Takes before after got × (length got ≤ taken_at_most old.max) × Keeps old new got result
+
+-- what was held and taken is gone or left
+sizes : (max : ℕ) (held left : List ℕ) (before after : Option (List ℕ)) (count : ℕ) → (s : Spends max held before after left count)
+    → length held + length s.got ≡ length s.gone + length left
+sizes max held left before after count s = sym (length-append held s.got) ∙ (ap length s.split ∙ length-append s.gone left)
+
+past_none : (place n : ℕ) → past place (past 0 n) ≡ past place n
+past_none place n = grind arith
+
+past_moved : (place held got gone left : ℕ) → held + got ≡ gone + left → past (past place (past 0 gone)) left ≡ past (past place held) got
+past_moved place held got gone left e = grind arith
+
+all_held : (old new : ReaderState) (before after : Option (List ℕ)) (count : ℕ) → (s : Spends old.max old.held before after new.held count) → new.gone ≡ past old.gone count
+    → holding new ≡ past (holding old) (length s.got)
+all_held old new before after count s e =
+    ap (λ n. past n (length new.held)) (e ∙ ap (past old.gone) s.counted)
+    ∙ past_moved old.gone (length old.held) (length s.got) (length s.gone) (length new.held) (sizes old.max old.held new.held before after count s)
+
+pub kept_fault : (old new : ReaderState) (before after : Option (List ℕ)) (count : ℕ) (fault : FrameFault) → Spends old.max old.held before after new.held count
+    → new.gone ≡ past old.gone count → new.place ≡ old.place → Kept old new before after (Err fault)
+kept_fault old new before after count fault s e place = (s.got, s.taken, s.few, (all_held old new before after count s e, place))
+
+pub kept_none : (old new : ReaderState) (before after : Option (List ℕ)) (count : ℕ) → Spends old.max old.held before after new.held count
+    → new.gone ≡ past old.gone count → new.held ≡ [] → new.place ≡ past old.place count → Kept old new before after (Ok None)
+kept_none old new before after count s e none place =
+    let size = sizes old.max old.held new.held before after count s in
+    let empty : length new.held ≡ 0 = ap length none in
+    let all : length old.held + length s.got ≡ length s.gone = omega arith in (
+      s.got,
+      s.taken,
+      s.few,
+      (
+        all_held old new before after count s e,
+        none,
+        place ∙ (ap (past old.place) s.counted ∙ (past_none old.place (length s.gone) ∙ ap (past old.place) (sym all))),
+      ),
+    )
+
+pub kept_some : (old new : ReaderState) (before after : Option (List ℕ)) (count : ℕ) (m : Message) → Spends old.max old.held before after new.held count
+    → new.gone ≡ 0 → length new.held ≤ 4096 → new.place ≡ past old.place count → Kept old new before after (Ok (Some m))
+kept_some old new before after count m s e few place = (
+  s.got,
+  s.taken,
+  s.few,
+  (
+    s.gone,
+    s.split,
+    place ∙ (ap (past old.place) s.counted ∙ past_none old.place (length s.gone)),
+    ap (λ n. past n (length new.held)) e ∙ small (length new.held) few,
+  ),
+)
+  where
+    small : (n : ℕ) → n ≤ 4096 → past 0 n ≡ n
+    small n h = grind arith

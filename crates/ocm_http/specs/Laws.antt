@@ -2,7 +2,9 @@
 use Rattle.std.specs.Prelude.{◌≡◌, ℕ, ◌+◌, Bool, false, List, ◌∷◌, ◌++◌, length, ⊤}
 use Rattle.ocm_http.specs.Places.{past}
 use Rattle.ocm_http.specs.Frames.{Frame, Given, Refused, Awaited, Over, IsFrame, Frames}
+use Rattle.ocm_http.specs.Messages.{IsRequest}
 use Rattle.ocm_http.specs.declared.messages.Kind.{Kind}
+use Rattle.ocm_http.specs.declared.messages.Kind.TheVariants.{Requests}
 use Rattle.ocm_http.specs.declared.messages.Message.{Message}
 
 -- a frame is a message or a fault
@@ -40,3 +42,15 @@ FirstOfStream =
     → IsFrame kind max place bytes false (Given message left) → n + length left ≡ length bytes
     → Frames kind max (past place n) (left ++ later) ended messages frame
     → Frames kind max place (bytes ++ later) ended (message ∷ messages) frame
+
+-- a message of requests is a request
+abbrev pub MessageIsRequest : Type 0
+MessageIsRequest =
+    (max place : ℕ) (bytes rest : List ℕ) (ended : Bool) (message : Message)
+    → IsFrame Requests max place bytes ended (Given message rest) → IsRequest message.head
+
+-- a request is whole without the end of input: its bytes are that request where the input goes on as well
+abbrev pub RequestIsWhole : Type 0
+RequestIsWhole =
+    (max place : ℕ) (bytes rest : List ℕ) (ended : Bool) (message : Message)
+    → IsFrame Requests max place bytes ended (Given message rest) → IsFrame Requests max place bytes false (Given message rest)

@@ -32,3 +32,8 @@ length_fault lengths.BodyTooLong place = BodyTooLong place
 -- a message with more of its body
 abbrev pub more_of : Message → List ℕ → Message
 more_of message bytes = record { head = message.head; body = message.body ++ bytes }
+
+-- whether a message is a request
+abbrev pub IsRequest : Head → Type 0
+IsRequest (Request method target closing fields) = Unit {0}
+IsRequest (Reply status fields) = ⊥

@@ -1,16 +1,18 @@
 -- What a reader reads of its source.
-use Rattle.std.specs.Prelude.{◌≡◌, ℕ, ◌+◌, ◌*◌, ◌≤◌, Bool, List, [], ◌++◌, length, Option, IfSome, IsTrue}
+use Rattle.std.specs.Prelude.{◌≡◌, ℕ, ◌+◌, ◌*◌, ◌≤◌, Bool, List, [], ◌++◌, length, Option, Some, None, Result, Ok, Err, IfSome, IsTrue}
 use Rattle.ocm_base.specs.Outside.{Takes}
 use Rattle.ocm_http.specs.Places.{past}
 use Rattle.ocm_http.specs.Frames.{Frame, IsFrame}
 use Rattle.ocm_http.specs.Stages.{Stands, Rest, budget}
 use Rattle.ocm_http.specs.declared.messages.Kind.{Kind}
+use Rattle.ocm_http.specs.declared.messages.Message.{Message}
+use Rattle.ocm_http.specs.declared.messages.FrameFault.{FrameFault}
 use Rattle.ocm_http.specs.declared.stages.Rules.{Rules}
 use Rattle.ocm_http.specs.declared.stages.Stage.{Stage}
 
 -- a reader: the messages that it reads, how many bytes their bodies have at most, the place of the next message, the
--- bytes behind the last that were taken from the source, whether it answered a fault, and how many bytes of the
--- message that ended with it are gone
+-- bytes that were taken from the source and are still to be read, whether it answered a fault, and how many bytes were
+-- read since the last message that was given
 pub record ReaderState : Type 0 where
   pub kind : Kind
   pub max : ℕ
@@ -22,6 +24,20 @@ pub record ReaderState : Type 0 where
 -- how many bytes one message takes at most, with those behind it that are read with it
 abbrev pub taken_at_most : ℕ → ℕ
 taken_at_most max = 262 * (max + 1) + 32768
+
+-- how many bytes a reader holds: those that were taken from its source and are part of no message that was given
+abbrev pub holding : ReaderState → ℕ
+holding reader = past reader.gone (length reader.held)
+
+-- what a reader holds after a call that took these bytes: what is behind the message that was given; where none was
+-- given, what it held before and all that it took
+abbrev pub Keeps : ReaderState → ReaderState → List ℕ → Result (Option Message) FrameFault → Type 0
+Keeps old new got (Ok (Some message)) =
+    (of_message : List ℕ) × (old.held ++ got ≡ of_message ++ new.held)
+    × (new.place ≡ past old.place (length of_message)) × (holding new ≡ length new.held)
+Keeps old new got (Ok None) =
+    (holding new ≡ past (holding old) (length got)) × (new.held ≡ []) × (new.place ≡ past old.place (length old.held + length got))
+Keeps old new got (Err fault) = (holding new ≡ past (holding old) (length got)) × (new.place ≡ old.place)
 
 -- what was held and what was then taken from the source is this, where the input has ended or not
 pub record ReadingOf (kind : Kind) (max place : ℕ) (held : List ℕ) (before after : Option (List ℕ)) (ended : Bool) (frame : Frame) : Type 0 where
@@ -38,6 +54,16 @@ pub record MessageOf (kind : Kind) (max place : ℕ) (held : List ℕ) (before a
   pub of_message : List ℕ
   pub split : held ++ reading.got ≡ of_message ++ left
   pub counted : count ≡ past base (length of_message)
+
+-- what the reading of one message took, whether it came to one or not: of what was held and taken so many bytes are gone,
+-- and the others are left
+pub record Spends (max : ℕ) (held : List ℕ) (before after : Option (List ℕ)) (left : List ℕ) (count : ℕ) : Type 0 where
+  pub got : List ℕ
+  pub taken : Takes before after got
+  pub few : length got ≤ taken_at_most max
+  pub gone : List ℕ
+  pub split : held ++ got ≡ gone ++ left
+  pub counted : count ≡ past 0 (length gone)
 
 -- the same of a reader
 abbrev pub Reads : ReaderState → Option (List ℕ) → Option (List ℕ) → Bool → Frame → Type 0

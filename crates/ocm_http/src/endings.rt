@@ -1,4 +1,4 @@
-ghost use Rattle.std.specs.Prelude.{◌≡◌, [], true, IfOk, IfErr};
+ghost use Rattle.std.specs.Prelude.{◌≡◌, [], false, true, IfOk, IfErr, None};
 ghost use Rattle.ocm_http.specs.Frames as frames;
 ghost use Rattle.ocm_http.specs.Stages.{Stands, Ends, Rest};
 
@@ -12,6 +12,18 @@ fn is_bare(bytes: &[u8]) -> bool
     blanks(bytes) == bytes.len()
 }
 
+/// What the end of input makes of a head that isn't whole.
+fn end_of_head(text: &[u8]) -> Result<Option<Message>, FrameFault>
+    ensures over { IfOk result (λ o. (o ≡ None) × (frames.is_bare text.now ≡ true)) }
+    ensures cut { IfErr result (λ f. (f ≡ FrameFault.Cut) × (frames.is_bare text.now ≡ false)) }
+{
+    if is_bare(text) {
+        Ok(None)
+    } else {
+        Err(FrameFault::Cut)
+    }
+}
+
 /// What the end of input makes of a message that is being read: a message that ends with it, or nothing where the
 /// message had not begun, or a cut one.
 pub(crate) fn end(rules: Rules, stage: Stage) -> Result<Option<Message>, FrameFault>
@@ -21,18 +33,11 @@ pub(crate) fn end(rules: Rules, stage: Stage) -> Result<Option<Message>, FrameFa
     ensures fault { IfErr result (λ f. Rest rules stage [] true (frames.Refused f)) }
 {
     match stage {
-        Stage::Head { text, look: _ } => {
-            if is_bare(text.as_slice()) {
-                Ok(None)
-            } else {
-                Err(FrameFault::Cut)
-            }
-        }
+        Stage::Head { text, look: _ } => end_of_head(text.as_slice()),
         Stage::ToEnd { message, first: _ } => Ok(Some(message)),
-        Stage::Sized { .. } => Err(FrameFault::Cut),
-        Stage::Line { .. } => Err(FrameFault::Cut),
-        Stage::Data { .. } => Err(FrameFault::Cut),
-        Stage::Break { .. } => Err(FrameFault::Cut),
-        Stage::Trailers { .. } => Err(FrameFault::Cut),
+        begun => {
+            drop(begun);
+            Err(FrameFault::Cut)
+        }
     }
 }

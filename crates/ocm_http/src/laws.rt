@@ -1,4 +1,4 @@
-ghost use Rattle.ocm_http.specs.Laws.{FirstOfStream, MoreChangesNothing, OneFrame};
+ghost use Rattle.ocm_http.specs.Laws.{FirstOfStream, MessageIsRequest, MoreChangesNothing, OneFrame, RequestIsWhole};
 ghost use Rattle.ocm_http.specs.ReadBack.{RequestsAreReadBack, RepliesAreReadBack, StreamOfMessages, FixedAreWritten};
 
 /// Once bytes are a message or a fault, more bytes behind them change nothing: so it doesn't matter in which pieces a
@@ -15,6 +15,17 @@ pub fn bytes_are_one_frame()
 /// A message that was read is the first of its stream's, and those of what follows it are the rest.
 pub fn message_is_first_of_stream()
     ensures { FirstOfStream }
+{}
+
+/// What a reader of requests gives is a request.
+pub fn message_is_request()
+    ensures { MessageIsRequest }
+{}
+
+/// A request is whole without the end of input (RFC 9112 section 6.3): its bytes are that request whether the input ends
+/// with them or not.
+pub fn request_is_whole()
+    ensures { RequestIsWhole }
 {}
 
 /// A request that was written is read back as the request that it is: its method, its target, the fields that were

@@ -15,8 +15,8 @@ mod writing;
 
 pub use laws::{
     bytes_are_one_frame, fixed_replies_are_written_replies, message_is_first_of_stream,
-    more_bytes_change_nothing, written_messages_are_a_stream, written_reply_is_read_back,
-    written_request_is_read_back,
+    message_is_request, more_bytes_change_nothing, request_is_whole, written_messages_are_a_stream,
+    written_reply_is_read_back, written_request_is_read_back,
 };
 pub use messages::{FrameFault, Kind, Message};
 pub use ocm_heads::{Field, Head};

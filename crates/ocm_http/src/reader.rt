@@ -1,8 +1,7 @@
 ghost use Rattle.std.specs.Prelude.{◌≡◌, ◌≤◌, [], false, true, length, is_err, IfOk, IfErr, IfSome, IsFalse, None};
 ghost use Rattle.ocm_base.specs.Outside.{Rose, Takes};
-ghost use Rattle.ocm_http.specs.Places as places;
 ghost use Rattle.ocm_http.specs.Frames.{Given, Refused, Over};
-ghost use Rattle.ocm_http.specs.Readers.{Reads, ReadsMessage, taken_at_most};
+ghost use Rattle.ocm_http.specs.Readers.{Keeps, Reads, ReadsMessage, holding, taken_at_most};
 
 use crate::messages::{FrameFault, Kind, Message};
 use crate::reading::read_message;
@@ -71,13 +70,14 @@ impl Reader {
     /// How many bytes were taken from the source and are not part of a message that was given. The number ends at
     /// 2^64 - 1.
     pub fn held(&self) -> u64
-        ensures { result ≡ places.past self.now.gone (length self.now.held) }
+        ensures { result ≡ holding self.now }
     {
         past(self.gone, self.window.as_slice().len())
     }
 
     /// The next message. None where the input has ended between messages, line ends aside. At most 4,096 bytes are
-    /// taken from the source in one read.
+    /// taken from the source in one read. CR and LF bytes before a head are part of its message, also where the input
+    /// had ended behind them before.
     pub fn next<S: Source>(&mut self, source: &mut S) -> Result<Option<Message>, FrameFault>
         requires { IsFalse self.old.failed }
         ensures message { IfOk result (λ o. IfSome o (λ m. ReadsMessage self.old (S.left source.old) (S.left source.new) (Given m self.new.held) self.new.held self.new.place)) }
@@ -85,9 +85,9 @@ impl Reader {
         ensures fault { IfErr result (λ f. ((f ≡ FrameFault.ReadFault) → ⊥) → ((f ≡ FrameFault.NoMemory) → ⊥) → (ended : _) × Reads self.old (S.left source.old) (S.left source.new) ended (Refused f)) }
         ensures read_fault { result ≡ Err FrameFault.ReadFault → Rose (S.faults source.old) (S.faults source.new) }
         ensures never_falls { S.faults source.old ≤ S.faults source.new }
-        ensures taken { (got : _) × Takes (S.left source.old) (S.left source.new) got × (length got ≤ taken_at_most self.old.max) }
+        ensures taken { (got : _) × Takes (S.left source.old) (S.left source.new) got × (length got ≤ taken_at_most self.old.max) × Keeps self.old self.new got result }
         ensures few_held { length self.new.held ≤ 4096 }
-        ensures none_gone { IfOk result (λ _. self.new.gone ≡ 0) }
+        ensures none_gone { IfOk result (λ o. IfSome o (λ _. self.new.gone ≡ 0)) }
         ensures failed { self.new.failed ≡ is_err result }
         ensures same_kind { self.new.kind ≡ self.old.kind }
         ensures same_max { self.new.max ≡ self.old.max }
@@ -99,14 +99,19 @@ impl Reader {
         };
         let mut gone = 0;
         match read_message(rules, &mut self.window, source, &mut gone) {
-            Ok(read) => {
+            Ok(Some(message)) => {
                 self.place = self.place.saturating_add(gone);
                 self.gone = 0;
-                Ok(read)
+                Ok(Some(message))
+            }
+            Ok(None) => {
+                self.place = self.place.saturating_add(gone);
+                self.gone = self.gone.saturating_add(gone);
+                Ok(None)
             }
             Err(fault) => {
                 self.failed = true;
-                self.gone = gone;
+                self.gone = self.gone.saturating_add(gone);
                 Err(fault)
             }
         }

@@ -1,7 +1,7 @@
-ghost use Rattle.std.specs.Prelude.{◌≡◌, ◌+◌, ◌*◌, ◌≤◌, true, length, IfOk, IfErr, IfSome, None};
-ghost use Rattle.ocm_base.specs.Outside.{Rose, Takes};
+ghost use Rattle.std.specs.Prelude.{◌≡◌, ◌≤◌, [], true, length, IfOk, IfErr, IfSome, None};
+ghost use Rattle.ocm_base.specs.Outside.{Rose};
 ghost use Rattle.ocm_http.specs.Frames.{Given, Refused, Over};
-ghost use Rattle.ocm_http.specs.Readers.{ReadingOf, MessageOf, taken_at_most};
+ghost use Rattle.ocm_http.specs.Readers.{ReadingOf, MessageOf, Spends};
 
 use crate::endings::end;
 use crate::messages::{FrameFault, Message};
@@ -23,13 +23,17 @@ pub(crate) fn read_message<S: Source>(
     ensures read_fault { result ≡ Err FrameFault.ReadFault → Rose (S.faults source.old) (S.faults source.new) }
     ensures never_falls { S.faults source.old ≤ S.faults source.new }
     ensures within { length window.new ≤ 4096 }
-    ensures taken { (got : _) × Takes (S.left source.old) (S.left source.new) got × (length got ≤ taken_at_most rules.max) }
+    ensures emptied { IfOk result (λ o. o ≡ None → window.new ≡ []) }
+    ensures spends { Spends rules.max window.old (S.left source.old) (S.left source.new) window.new gone.new }
 {
     let alloc = window.allocator();
     let mut stage = start(alloc);
     'message: loop {
         match window.ready(source) {
-            Err(_) => return Err(FrameFault::ReadFault),
+            Err(_) => {
+                drop(stage);
+                return Err(FrameFault::ReadFault);
+            }
             Ok(false) => return end(rules, stage),
             Ok(true) => {}
         }

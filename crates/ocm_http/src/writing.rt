@@ -7,7 +7,7 @@ ghost use Rattle.ocm_http.specs.ReadBack as back;
 
 use base64::engine::general_purpose::STANDARD;
 use http::StatusCode;
-use ocm_base::{Bytes, Failed, List, NoMemory, Sink, write_all};
+use ocm_base::{Bytes, Failed, Joined, List, NoMemory, Sink, write_all};
 use ocm_heads::Field;
 use ocm_types::{Host, Secret};
 use std::alloc::Global;
@@ -180,7 +180,7 @@ pub fn write_reply(
     body: &Bytes,
     bodyless: bool,
     closing: bool,
-) -> Result<Bytes, NoMemory>
+) -> Result<Joined, NoMemory>
     requires code { (100 ≤ status) × (status < 1000) }
     requires phrase { IsSome (reason_phrase status) }
     ensures written { IfOk result (λ t. t ≡ written.written_reply status fields.now body.now bodyless closing) }
@@ -192,10 +192,10 @@ pub fn write_reply(
     add_close(&mut text, closing)?;
     text.add(b"\r\n")?;
     if bodyless {
-        return Ok(text);
+        return Ok(Joined::of(text, Bytes::new(alloc)));
     }
-    text.add(body.as_slice())?;
-    Ok(text)
+    let body = body.copy()?;
+    Ok(Joined::of(text, body))
 }
 
 /// The text of a fixed reply.

@@ -1,15 +1,15 @@
 use Rattle.std.proofs.Common.{rules, subst}
 use Rattle.ocm_http.specs.Stages.{Feeds, Faults}
 use Rattle.ocm_http.specs.declared.stages.Fed.TheVariants.{More, Whole}
-use Rattle.ocm_http.proofs.UnderWay.{under_filled, under_fed, under_given, under_fault, under_taken, ended_message}
+use Rattle.ocm_http.proofs.UnderWay.{under_filled, under_fed, under_given, under_fault, under_spends, under_spent, ended_message}
 use Rattle.ocm_http.proofs.reading.read_message.Goals as goal
 
-pub returns-in-Err-clause-taken : goal.returns-in-Err-clause-taken
-returns-in-Err-clause-taken g c =
+pub returns-in-Err-clause-spends : goal.returns-in-Err-clause-spends
+returns-in-Err-clause-spends g c =
     let left = g.S.Source.left in
     let t = c.ready.ensures.taken in
     let u = under_filled c.args.rules (left c.args.source.now) (left c.message.source) (left c.ready.new.source) c.args.window.now c.message.window c.ready.new.self c.message.stage c.message.gone t.0 c.message.invariant.under t.1 t.2 in
-    under_taken c.args.rules (left c.args.source.now) (left c.ready.new.source) c.args.window.now c.ready.new.self c.message.stage c.message.gone u c.ready.ensures.within
+    under_spends c.args.rules (left c.args.source.now) (left c.ready.new.source) c.args.window.now c.ready.new.self c.message.stage c.message.gone u c.ready.ensures.within
 
 pub returns-in-Ok-false-clause-message : goal.returns-in-Ok-false-clause-message
 returns-in-Ok-false-clause-message g c =
@@ -26,12 +26,12 @@ returns-in-Err-feed-clause-fault g c = λ _ other.
     let fault : Faults c.args.rules c.message.stage c.ready.new.self c.in-Err-feed.fault = subst (λ p. Faults c.args.rules c.message.stage p c.in-Err-feed.fault) c.as_slice.ensures.value c.in-Err-feed.ensures.fault in
     under_fault c.args.rules (left c.args.source.now) (left c.ready.new.source) c.args.window.now c.ready.new.self c.message.stage c.message.gone c.in-Err-feed.fault u fault other
 
-pub returns-in-Err-feed-clause-taken : goal.returns-in-Err-feed-clause-taken
-returns-in-Err-feed-clause-taken g c =
+pub returns-in-Err-feed-clause-spends : goal.returns-in-Err-feed-clause-spends
+returns-in-Err-feed-clause-spends g c =
     let left = g.S.Source.left in
     let t = c.ready.ensures.taken in
     let u = under_filled c.args.rules (left c.args.source.now) (left c.message.source) (left c.ready.new.source) c.args.window.now c.message.window c.ready.new.self c.message.stage c.message.gone t.0 c.message.invariant.under t.1 t.2 in
-    under_taken c.args.rules (left c.args.source.now) (left c.ready.new.source) c.args.window.now c.ready.new.self c.message.stage c.message.gone u c.ready.ensures.within
+    under_spends c.args.rules (left c.args.source.now) (left c.ready.new.source) c.args.window.now c.ready.new.self c.message.stage c.message.gone u c.ready.ensures.within
 
 pub returns-in-Ok-Whole-clause-message : goal.returns-in-Ok-Whole-clause-message
 returns-in-Ok-Whole-clause-message g c =
@@ -43,12 +43,22 @@ returns-in-Ok-Whole-clause-message g c =
     rw (c.skip.ensures, c.past.ensures)
     (under_given c.args.rules (left c.args.source.now) (left c.ready.new.source) c.args.window.now c.ready.new.self c.message.stage c.message.gone c.in-Ok-Whole.n c.in-Ok-Whole.message u fed)
 
-pub returns-in-Ok-Whole-clause-taken : goal.returns-in-Ok-Whole-clause-taken
-returns-in-Ok-Whole-clause-taken g c =
+pub returns-in-Ok-false-clause-spends : goal.returns-in-Ok-false-clause-spends
+returns-in-Ok-false-clause-spends g c =
     let left = g.S.Source.left in
     let t = c.ready.ensures.taken in
     let u = under_filled c.args.rules (left c.args.source.now) (left c.message.source) (left c.ready.new.source) c.args.window.now c.message.window c.ready.new.self c.message.stage c.message.gone t.0 c.message.invariant.under t.1 t.2 in
-    under_taken c.args.rules (left c.args.source.now) (left c.ready.new.source) c.args.window.now c.ready.new.self c.message.stage c.message.gone u c.ready.ensures.within
+    under_spends c.args.rules (left c.args.source.now) (left c.ready.new.source) c.args.window.now c.ready.new.self c.message.stage c.message.gone u c.ready.ensures.within
+
+pub returns-in-Ok-Whole-clause-spends : goal.returns-in-Ok-Whole-clause-spends
+returns-in-Ok-Whole-clause-spends g c =
+    let left = g.S.Source.left in
+    let t = c.ready.ensures.taken in
+    let u = under_filled c.args.rules (left c.args.source.now) (left c.message.source) (left c.ready.new.source) c.args.window.now c.message.window c.ready.new.self c.message.stage c.message.gone t.0 c.message.invariant.under t.1 t.2 in
+    let fed : Feeds c.args.rules c.message.stage c.ready.new.self (Whole c.in-Ok-Whole.message c.in-Ok-Whole.n) = subst (λ p. Feeds c.args.rules c.message.stage p (Whole c.in-Ok-Whole.message c.in-Ok-Whole.n)) c.as_slice.ensures.value
+    (subst (Feeds c.args.rules c.message.stage c.as_slice.result.now) c.in-Ok-Whole.field-0-is c.in-Ok-Whole.ensures.fed) in
+    rw (c.skip.ensures, c.past.ensures)
+    (under_spent c.args.rules (left c.args.source.now) (left c.ready.new.source) c.args.window.now c.ready.new.self c.message.stage c.message.gone c.in-Ok-Whole.n c.in-Ok-Whole.message u c.ready.ensures.within fed)
 
 pub message-preserved : goal.message-preserved
 message-preserved g c =

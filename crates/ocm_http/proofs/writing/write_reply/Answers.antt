@@ -15,6 +15,6 @@ returns-clause-read_back c =
     let body = c.args.body.now in
     let bodyless = c.args.bodyless in
     let closing = c.args.closing in
-    let whole : c.add-2.new.self ≡ written_reply status fields body bodyless closing = search rules in
+    let whole : c.of-2.result ≡ written_reply status fields body bodyless closing = search rules in
     subst (λ (bytes : List ℕ). ReplyIsReadBack status fields body bodyless closing bytes) (sym whole)
     (reply_is_read_back status fields body bodyless closing c.requires.code.1)
