@@ -4,9 +4,10 @@ ghost use Rattle.std.specs.Prelude.{◌≡◌, ◌∷◌, [], ℕ, List, IsTrue}
 ghost use Rattle.ocm_entry.specs.declared.asks.Ask.{Ask};
 ghost use Rattle.ocm_entry.specs.declared.entries.Entry.{Entry};
 ghost use Rattle.ocm_entry.specs.declared.replies.Reply.{Reply};
-ghost use Rattle.ocm_rules.specs.History.{answer, is_failure};
+ghost use Rattle.ocm_rules.specs.History.{answer, is_failure, kept};
 ghost use Rattle.ocm_rules.specs.State.{State, after, empty_of};
-ghost use Rattle.ocm_core.specs.Standing.{IsAfter};
+ghost use Rattle.ocm_tables.specs.Tables.{ServerLists};
+ghost use Rattle.ocm_core.specs.Standing.{IsAfter, IsNumbered};
 
 /// Before the first entry the lists are those of the empty history.
 pub fn lists_begin_empty()
@@ -17,6 +18,11 @@ pub fn lists_begin_empty()
 pub fn lists_go_on_by_what_the_rules_give()
     ensures { (st : State) (g : List Entry) (ask : Ask) → IsAfter st g
         → let reply = answer st.host g ask in IsAfter (after st ask reply) (record { ask = ask; reply = reply } ∷ g) }
+{}
+
+/// An entry that changes nothing leaves the numbers of those that are kept.
+pub fn numbers_stay_where_nothing_changes()
+    ensures { (lists : ServerLists) (g : List Entry) (e : Entry) → IsNumbered lists g → kept lists.state.host (e ∷ g) ≡ kept lists.state.host g → IsNumbered lists (e ∷ g) }
 {}
 
 /// An entry that tells that the server could not do it leaves the lists as they are.

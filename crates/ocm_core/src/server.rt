@@ -1,4 +1,4 @@
-ghost use Rattle.std.specs.Prelude.{◌≡◌, ◌≤◌, ◌∷◌, [], length, IfOk, OnOk, List, IsTrue, option_copied, option_map};
+ghost use Rattle.std.specs.Prelude.{◌≡◌, ◌≤◌, ◌<◌, ◌∷◌, [], ℕ, length, IfOk, OnOk, List, Some, IsTrue, option_copied, option_map};
 ghost use Rattle.ocm_entry.specs.declared.asks.Ask.{Ask};
 ghost use Rattle.ocm_entry.specs.declared.entries.Entry.{Entry};
 ghost use Rattle.ocm_entry.specs.Proper.{is_proper};
@@ -9,10 +9,10 @@ ghost use Rattle.ocm_rules.specs.Shares.{moment};
 ghost use Rattle.ocm_rules.specs.State.{empty_of, view_in};
 ghost use Rattle.ocm_tables.specs.Changes.{HasRoom, changed, is_kept};
 ghost use Rattle.ocm_plan.specs.Plans.{Plans};
-ghost use Rattle.ocm_core.specs.Standing.{IsAfter, IsPlanned};
+ghost use Rattle.ocm_core.specs.Standing.{IsAfter, IsNumbered, IsPlanned, body_of as bytes_of, body_with, standing_body};
 
-use ocm_base::NoMemory;
-use ocm_entry::{Ask, Reply};
+use ocm_base::{Bytes, NoMemory};
+use ocm_entry::{Ask, Reply, Standing};
 use ocm_plan::{Planned, plan_new_user, plan_tick};
 use ocm_plan_dav::{plan_carry, plan_dav};
 use ocm_plan_local::plan_command;
@@ -22,8 +22,8 @@ use ocm_types::{Host, Numbered};
 use std::alloc::Global;
 use std::marker::Model;
 
-/// The state of one server after its history. Contracts see the lists that the history comes to, and
-/// for how many more rows there is room.
+/// The state of one server after its history. Contracts see the lists that the history comes to, for
+/// how many more rows there is room, how many of its entries are kept, and which of these put what stands.
 #[derive(Drop)]
 pub struct Core {
     tables: Tables,
@@ -42,6 +42,7 @@ impl Core {
     pub fn new(alloc: Global, host: Host) -> Core
         ensures state { result.state ≡ empty_of host }
         ensures after { IsAfter result.state [] }
+        ensures numbered { IsNumbered result [] }
     {
         Core {
             tables: Tables::new(alloc, host),
@@ -84,10 +85,28 @@ impl Core {
         Ok(planned)
     }
 
+    /// The body that the kept entry of this number put, where it is a PUT whose body still stands once the planned
+    /// change is made. The entries that are kept are counted from 1, the oldest first, ticks with them. The plan is
+    /// one for this state.
+    pub fn standing<'a>(&'a self, planned: &'a Planned, entry: u64) -> Option<&'a Bytes>
+        requires { IsPlanned self.now.state planned.now }
+        ensures value { self.now.entries < 18446744073709551615 → option_copied result ≡ body_with self.now planned.now entry }
+        ensures history { (g : List Entry) (ask : Ask) → IsAfter self.now.state g → IsNumbered self.now g → Plans self.now.state ask planned.now
+            → length (kept self.now.state.host g) < 18446744073709551615
+            → option_copied result ≡ standing_body self.now.state.host (kept self.now.state.host (record { ask = ask; reply = planned.now.reply } ∷ g)) entry }
+    {
+        match self.tables.standing_by(entry, planned.change()) {
+            Some(standing) => body_of(standing),
+            None => None,
+        }
+    }
+
     /// Takes the memory that the change needs. The plan is one for this state, which stays.
     pub fn room(&mut self, planned: &Planned) -> Result<(), NoMemory>
         requires { IsPlanned self.old.state planned.now }
         ensures state { self.new.state ≡ self.old.state }
+        ensures entries { self.new.entries ≡ self.old.entries }
+        ensures origins { self.new.origins ≡ self.old.origins }
         ensures change { OnOk result (HasRoom self.new.room planned.now.change) }
         ensures messages { OnOk result (length planned.now.sent ≤ self.new.room.messages) }
     {
@@ -104,6 +123,7 @@ impl Core {
         ensures reply { result ≡ planned.reply }
         ensures host { self.new.state.host ≡ self.old.state.host }
         ensures after { (g : List Entry) (ask : Ask) → IsAfter self.old.state g → Plans self.old.state ask planned → IsAfter self.new.state (record { ask = ask; reply = result } ∷ g) }
+        ensures numbered { (g : List Entry) (ask : Ask) → IsAfter self.old.state g → IsNumbered self.old g → Plans self.old.state ask planned → IsNumbered self.new (record { ask = ask; reply = result } ∷ g) }
     {
         let (reply, change, sent) = planned.into_parts();
         self.tables.apply(change, sent);
@@ -137,5 +157,15 @@ fn plan(tables: &Tables, ask: &Ask) -> Result<Planned, NoMemory>
             moving,
             overwrite,
         } => plan_carry(tables, secret, from, to, *moving, *overwrite),
+    }
+}
+
+/// The bytes of what stands, where it is a file.
+fn body_of(standing: &Standing) -> Option<&Bytes>
+    ensures { option_copied result ≡ bytes_of (Some standing.now) }
+{
+    match standing {
+        Standing::File { body } => Some(body),
+        Standing::Collection => None,
     }
 }
