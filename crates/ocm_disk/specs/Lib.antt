@@ -1,6 +1,5 @@
 pub mod Disk
 pub mod Fuse
-pub mod Items
 pub mod Marks
 pub mod Memory
 pub mod Past

@@ -7,9 +7,12 @@ use crate::disk::Disk;
 use ocm_base::{Failed, NoMemory};
 use std::fs::File;
 use std::io;
-use std::os::unix::fs::FileExt;
+use std::os::unix::fs::{FileExt, OpenOptionsExt};
 use std::path::Path;
 use std::rt::Files;
+
+/// Who may open a file that was made: its owner alone, since it holds keys.
+const MODE: u32 = 0o600;
 
 /// A disk over a real file. It tells nothing of what it holds, and counts its faults. A call that a signal interrupted
 /// is tried again. Room is free.
@@ -30,6 +33,7 @@ impl FileDisk {
             .read(true)
             .write(true)
             .create(true)
+            .mode(MODE)
             .open(files, path)?;
         file.try_lock()?;
         sync_folder(files, path)?;

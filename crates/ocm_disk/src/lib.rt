@@ -9,7 +9,6 @@ mod marks;
 mod memory;
 mod overwrite;
 mod shelf;
-mod trace;
 
 pub use crashes::Crash;
 pub use disk::Disk;

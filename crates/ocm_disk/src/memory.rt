@@ -11,7 +11,6 @@ ghost use mathlib.Core.Path.{refl};
 use crate::crashes::Crash;
 use crate::disk::Disk;
 use crate::images::Images;
-use crate::trace::Trace;
 use ocm_base::{Failed, NoMemory};
 use std::alloc::Global;
 use std::marker::Model;

@@ -2,7 +2,7 @@
 use Rattle.std.proofs.Common.{◌≡◌, ◌≢◌, ◌≤◌, ◌<◌, ◌⊎◌, inl, inr, ℕ, ◌+◌, List, [], ◌∷◌, ◌++◌, length, get_or, refl, sym, ◌∙◌, ap, subst, arith, append_assoc, append-nil, length-append}
 use Rattle.std.proofs.lemmas.Bool.{cases_eq}
 use Rattle.std.proofs.lemmas.Bool.Decides.{nat_tests}
-use Rattle.std.specs.Int.{w64, to_be_bytes}
+use Rattle.std.specs.Int.{w32, w64, to_be_bytes}
 use Rattle.ocm_disk.specs.Disk.{Torn, Holds}
 use Rattle.ocm_image.specs.Layout.{IsImage, HoldsAt, AreRecords, named, block, blocks, blocks_size, area_text, live_start}
 use Rattle.ocm_image.proofs.Sizes.{length-blocks}
@@ -18,6 +18,9 @@ length-front label area selector = omega (arith, length-named label area, length
 
 pub length-area_text : (form : ℕ) (rs : List (List ℕ)) (gate : ℕ) → length (area_text form rs gate) ≡ 2 + blocks_size rs
 length-area_text form rs gate = omega (arith, length-append (blocks rs) (gate ∷ []), length-blocks rs)
+
+pub length-record_text : (r : List ℕ) → length (record_text r) ≡ length r + 5
+length-record_text r = omega (arith, length-append (to_be_bytes w32 (length r) ++ r) (0 ∷ []), length-append r (0 ∷ []))
 
 pub blocks-push : (rs : List (List ℕ)) (r : List ℕ) → blocks (rs ++ r ∷ []) ≡ blocks rs ++ block r
 blocks-push [] r = append-nil (block r)
@@ -59,6 +62,11 @@ stays_image label area form rs b c p n image torn header place =
       shut = image.shut;
       within = image.within;
     }
+
+-- with the same area live
+pub stays_live : (label : List ℕ) (area form : ℕ) (rs : List (List ℕ)) (b c : List ℕ) (p n : ℕ) (image : IsImage label area form rs b) → Torn p n b c → 18 + length label ≤ p → (live_start area image.selector + 2 + blocks_size rs ≤ p) ⊎ (p + n ≤ live_start area image.selector) → (after : IsImage label area form rs c) × (after.selector ≡ image.selector)
+unfolding stays_image
+stays_live label area form rs b c p n image torn header place = (stays_image label area form rs b c p n image torn header place, refl)
 
 -- an image whose last gate may be any byte, with a further record whole behind it
 pub record Grown (label : List ℕ) (area form : ℕ) (rs : List (List ℕ)) (r : List ℕ) (selector : ℕ) (c : List ℕ) : Type 0 where
@@ -164,3 +172,14 @@ module _ (label : List ℕ) (area form : ℕ) (rs : List (List ℕ)) (b : List �
       let there : gate ≤ length mid = omega (arith, lt, torn_first.no_shorter) in
       let g = stays_grown gate mid c is low (whole_is_torn gate mid (1 ∷ []) c last there) first in
       (open_image c g (subst (λ k. HoldsAt c k (1 ∷ [])) is (written_holds gate mid (1 ∷ []) c last there)) some few fits, refl)
+
+  -- with another byte than 01 in the gate the record behind it doesn't count
+  pub after_ruin : (gate x : ℕ) (c : List ℕ) → x ≢ 1 → gate ≡ live_start area image.selector + 1 + blocks_size rs → gate < length b → Switched b (gate + 1) (record_text r) gate x c → (after : IsImage label area form rs c) × (after.selector ≡ image.selector)
+  unfolding shut_image
+  after_ruin gate x c other is lt (mid, holds, last) =
+      let low : 18 + length label ≤ gate = omega (arith, is, start_at_least area image.selector, image.label_size.1) in
+      let first = grown (gate + 1) mid (omega (arith, is)) (omega (arith, lt)) (omega (arith, low)) holds in
+      let torn_first = whole_is_torn (gate + 1) b (record_text r) mid holds (omega (arith, lt)) in
+      let there : gate ≤ length mid = omega (arith, lt, torn_first.no_shorter) in
+      let g = stays_grown gate mid c is low (whole_is_torn gate mid (x ∷ []) c last there) first in
+      (shut_image x c g (subst (λ k. HoldsAt c k (x ∷ [])) is (written_holds gate mid (x ∷ []) c last there)) other, refl)

@@ -1,9 +1,12 @@
 pub mod AppendStands
 pub mod Appended
+pub mod BothWays
+pub mod CutShort
 pub mod Holding
+pub mod LiveAreas
 pub mod Made
-pub mod OfBlank
 pub mod Moving
+pub mod OfBlank
 pub mod OpenedImage
-pub mod Renewed
 pub mod RenewStands
+pub mod Renewed

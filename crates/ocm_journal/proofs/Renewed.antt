@@ -8,7 +8,7 @@ use Rattle.ocm_image.specs.Layout.{IsImage, HoldsAt, AreRecords, named, blocks_s
 use Rattle.ocm_journal.specs.Steps.{Switched, InSwitch}
 use Rattle.ocm_journal.specs.Journals.{renewed_text, IsOldOrNew, IsOther}
 use Rattle.ocm_journal.proofs.Holding.{holds_both, holds_first, holds_second, holds_byte, stays_before, stays_behind, written_holds, whole_is_torn}
-use Rattle.ocm_journal.proofs.Appended.{length-named, length-area_text, start_at_least, stays_image}
+use Rattle.ocm_journal.proofs.Appended.{length-named, length-area_text, start_at_least, stays_image, stays_live}
 
 live_one : (area : ℕ) → live_start area 1 ≡ 512
 live_one area = refl
@@ -48,6 +48,9 @@ module _ (label : List ℕ) (area form : ℕ) (rs : List (List ℕ)) (b : List �
   -- while the other area is written
   pub in_first : (c : List ℕ) → Torn place (length (renewed_text (other - place) ns)) b c → IsImage label area form rs c
   in_first c torn = stays_image label area form rs b c place (length (renewed_text (other - place) ns)) image torn (omega (arith, place_low, image.label_size.1)) apart
+
+  pub first_live : (c : List ℕ) → Torn place (length (renewed_text (other - place) ns)) b c → (after : IsImage label area form rs c) × (after.selector ≡ image.selector)
+  first_live c torn = stays_live label area form rs b c place (length (renewed_text (other - place) ns)) image torn (omega (arith, place_low, image.label_size.1)) apart
 
   both_in : (mid : List ℕ) → Holds b place (renewed_text (other - place) ns) mid → Both label area form rs ns image.gate start other mid
   both_in mid holds =
@@ -149,3 +152,16 @@ module _ (label : List ℕ) (area form : ℕ) (rs : List (List ℕ)) (b : List �
       let le : selector ≤ length mid = omega (arith, s.header, is, image.label_size.1) in
       let t = both_stay selector mid c is (whole_is_torn selector mid (byte ∷ []) c last le) s in
       new_image byte c t (subst (λ k. HoldsAt c k (byte ∷ [])) is (written_holds selector mid (byte ∷ []) c last le)) live_byte
+
+  -- with `ee` in place of the selector the second area is live
+  pub after_ruin : (selector : ℕ) (c : List ℕ) → selector ≡ 17 + length label → Switched b place (renewed_text (other - place) ns) selector 238 c → (start ≡ 512 → (new : IsImage label area 2 ns c) × (live_start area new.selector ≡ other)) × (start ≢ 512 → (old : IsImage label area form rs c) × (live_start area old.selector ≡ start))
+  unfolding old_image
+  after_ruin selector c is (mid, holds, last) =
+      let s = both_in mid holds in
+      let le : selector ≤ length mid = omega (arith, s.header, is, image.label_size.1) in
+      let t = both_stay selector mid c is (whole_is_torn selector mid (238 ∷ []) c last le) s in
+      let held : HoldsAt c (17 + length label) (238 ∷ []) = subst (λ k. HoldsAt c k (238 ∷ [])) is (written_holds selector mid (238 ∷ []) c last le) in
+      elim other_is [
+        | inl (at, o, k) ↦ ((λ first. new_image 238 c t held (sym o)), (λ second. absurd (second at)))
+        | inr (at, o, k) ↦ ((λ first. absurd (omega (arith, first, at, image.area_size.0))), (λ second. (old_image 238 c t held (sym at), sym at)))
+      ]

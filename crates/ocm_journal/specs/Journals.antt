@@ -1,10 +1,18 @@
 -- What a journal stands for.
-use Rattle.std.specs.Prelude.{replicate, ◌≡◌, ◌<◌, ◌≤◌, ◌⊎◌, ℕ, ◌+◌, List, [], ◌∷◌, ◌++◌, length, true, vec_capacity}
+use Rattle.std.specs.Prelude.{replicate, ◌≡◌, ◌<◌, ◌≤◌, ◌⊎◌, ◌==◌, ℕ, ◌+◌, List, [], ◌∷◌, ◌++◌, length, slice_index, Bool, true, vec_capacity}
 use Rattle.std.specs.Int.{w32, to_be_bytes}
 use Rattle.ocm_disk.specs.Disk.{Only}
 use Rattle.ocm_disk.specs.declared.disk.Disk.{Ghosts}
 use Rattle.ocm_image.specs.Layout.{IsImage, blocks_size, area_text, live_start}
 use Rattle.ocm_journal.specs.declared.journal.Journal.{Journal}
+
+-- whether the first area is live by the selector byte
+abbrev pub selects_first : List ℕ → List ℕ → Bool
+selects_first label bytes = slice_index bytes (17 + length label) == 1
+
+-- an image of the records, with the first area live or the second
+abbrev pub IsImageWith : Bool → List ℕ → ℕ → ℕ → List (List ℕ) → List ℕ → Type 0
+IsImageWith first label area form records bytes = IsImage label area form records bytes × (selects_first label bytes ≡ first)
 
 -- the bytes of a record behind its gate, and the closed gate behind them
 abbrev pub record_text : List ℕ → List ℕ
@@ -37,6 +45,10 @@ area_of journal = journal.area
 -- the form of its live area
 abbrev pub form_of : {D : Type 0} {disk : Ghosts D} → Journal D disk → ℕ
 form_of journal = journal.form
+
+-- whether its first area is the live one, so that a renewal goes to the second
+abbrev pub first_is_live : {D : Type 0} {disk : Ghosts D} → Journal D disk → Bool
+first_is_live journal = journal.start == 512
 
 -- whether a disk call of an earlier append or renewal has failed
 abbrev pub IsStopped : {D : Type 0} {disk : Ghosts D} → Journal D disk → Type 0

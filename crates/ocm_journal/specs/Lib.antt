@@ -1,3 +1,4 @@
+pub mod AfterFaults
 pub mod Faults
 pub mod Journals
 pub mod Openings

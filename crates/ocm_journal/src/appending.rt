@@ -2,8 +2,9 @@ ghost use Rattle.std.specs.Prelude.{◌≡◌, ◌⊎◌, ◌<◌, ◌≤◌, �
 ghost use Rattle.std.specs.Int.{w32, to_be_bytes};
 ghost use Rattle.ocm_base.specs.Outside.{raised};
 ghost use Rattle.ocm_disk.specs.Disk.{LeavesOnly};
+ghost use Rattle.ocm_journal.specs.AfterFaults.{AfterFault};
 ghost use Rattle.ocm_journal.specs.Faults.{HasCount, stops};
-ghost use Rattle.ocm_journal.specs.Journals.{record_text, IsBeforeOrAfter, disk_of, IsFullFor, HasRoom, SameShape, StandsFor};
+ghost use Rattle.ocm_journal.specs.Journals.{record_text, IsBeforeOrAfter, IsImageWith, disk_of, first_is_live, IsFullFor, IsStopped, HasRoom, SameShape, StandsFor};
 
 use crate::journal::Journal;
 use crate::steps::put_behind;
@@ -53,6 +54,7 @@ impl<D: Disk> Journal<D> {
         ensures stands { D.tells → (label : List ℕ) (records : List (List ℕ)) → StandsFor ⟦<D as Disk>⟧ label records self.old → StandsFor ⟦<D as Disk>⟧ label records self.new }
         ensures any_moment { D.tells → LeavesOnly D.moment D.left_since (disk_of self.old) (disk_of self.new) (D.may_leave (disk_of self.old)) }
         ensures passes { (calls : ℕ) → D.passes (disk_of self.old) calls → D.passes (disk_of self.new) calls }
+        ensures burnt { (left : ℕ) → D.burnt (disk_of self.old) left → D.burnt (disk_of self.new) left }
         ensures count { D.count (disk_of self.new) ≡ D.count (disk_of self.old) }
     {
         let Some(size) = n.checked_add(5) else {
@@ -78,6 +80,7 @@ impl<D: Disk> Journal<D> {
         ensures full { IsErrOf result AppendFault.Full ↔ IsFullFor self.old (length bytes.now) }
         ensures unchanged { IsErrOf result AppendFault.Full → self.new ≡ self.old }
         ensures fault { IfErr result (HasCount (D.count (disk_of self.old)) (D.count (disk_of self.new))) }
+        ensures count { OnOk result (D.count (disk_of self.new) ≡ D.count (disk_of self.old)) }
         ensures stopped { self.new.stopped ≡ stops result }
         ensures shape { SameShape self.old self.new }
 
@@ -85,6 +88,11 @@ impl<D: Disk> Journal<D> {
         ensures calls { (left : ℕ) → D.burnt (disk_of self.old) (left + 4) → OnOk result (D.burnt (disk_of self.new) left) }
         ensures fewer { (left : ℕ) → left < 4 → D.burnt (disk_of self.old) left → IsErr result }
         ensures passes { (calls : ℕ) → D.passes (disk_of self.old) (calls + 4) → IsErrOf result AppendFault.Full ⊎ (IsOk result × D.passes (disk_of self.new) calls) }
+
+        // What stands on the disk where the calls that were left ended within it.
+        ensures after_fault { D.tells → (label : List ℕ) (records : List (List ℕ)) (left : ℕ) → StandsFor ⟦<D as Disk>⟧ label records self.old → IsStopped self.new
+            → D.passes (disk_of self.old) left → D.burnt (disk_of self.old) left
+            → AfterFault ⟦<D as Disk>⟧ left false (IsImageWith (first_is_live self.old) label self.old.area self.old.form records) (IsImageWith (first_is_live self.old) label self.old.area self.old.form (records ++ bytes.now ∷ [])) (disk_of self.new) }
     {
         let size = bytes.len() as u64;
         if self.start + self.area < self.gate + size + 6 {

@@ -4,6 +4,7 @@
 mod appending;
 mod faults;
 mod journal;
+mod laws;
 mod loading;
 mod making;
 mod reading;
@@ -14,5 +15,6 @@ mod telling;
 pub use appending::AppendFault;
 pub use faults::OpenFault;
 pub use journal::Journal;
+pub use laws::{an_image_is_opened, what_is_opened_is_blank_or_an_image};
 pub use ocm_image::RawRecord;
 pub use renewing::RenewFault;

@@ -1,8 +1,8 @@
-ghost use Rattle.std.specs.Prelude.{◌≡◌, ◌⊎◌, ◌≤◌, ◌^◌, [], List, ℕ, length, OnOk, IfOk, IfErr, Some, None, Ok, min, take, false};
+ghost use Rattle.std.specs.Prelude.{◌≡◌, ◌⊎◌, ◌≤◌, ◌^◌, [], List, ℕ, length, OnOk, IfOk, IfErr, Some, None, Ok, min, take, true, false};
 ghost use Rattle.ocm_disk.specs.Disk.{Only, LeavesOnly};
-ghost use Rattle.ocm_image.specs.Blank.{blank_of, made_form};
+ghost use Rattle.ocm_image.specs.Blank.{IsBlank, blank_of, made_form};
 ghost use Rattle.ocm_image.specs.Layout.{IsLabel, IsAreaSize, contents};
-ghost use Rattle.ocm_journal.specs.Journals.{disk_of, area_of, form_of, StandsFor};
+ghost use Rattle.ocm_journal.specs.Journals.{disk_of, area_of, form_of, first_is_live, selects_first, StandsFor};
 ghost use Rattle.ocm_journal.specs.Openings.{Opens, BlankSize, IsPlaced, ImageOpens, IsReadFault, IsCounted, IsSaidBy, StaysAsItOpens, IsMadeAs, opening, new_area};
 
 use crate::faults::OpenFault;
@@ -58,6 +58,7 @@ fn open_blank<D: Disk>(
     ensures opens { D.tells → blank_of label.now area (D.seen disk.old) ≡ Some blank → IfOk result (ImageOpens label.now (D.seen disk.new)) }
     ensures none { IfOk result (λ opened. opened.records ≡ []) }
     ensures made { blank_of label.now area (D.seen disk.old) ≡ Some blank → IfOk result (λ opened. IsMadeAs label.now area (D.seen disk.old) opened.form opened.area) }
+    ensures first { IfOk result (λ opened. opened.start ≡ 512) }
     ensures durable { D.tells → OnOk result (Only (D.seen disk.new) (D.may_leave disk.new)) }
     ensures any_moment { D.tells → Only (D.seen disk.old) (D.may_leave disk.old) → blank_of label.now area (D.seen disk.old) ≡ Some blank
         → LeavesOnly D.moment D.left_since disk.old disk.new (Opens label.now area []) }
@@ -91,6 +92,8 @@ fn open_synced<D: Disk>(
     ensures opens { D.tells → IfOk result (ImageOpens label.now (D.seen disk.new)) }
     ensures reads { D.tells → IfOk result (λ opened. opening label.now area (D.seen disk.old) ≡ Ok opened.records) }
     ensures made { D.tells → IfOk result (λ opened. IsMadeAs label.now area (D.seen disk.old) opened.form opened.area) }
+    ensures same { D.tells → blank_of label.now area (D.seen disk.old) ≡ None → D.seen disk.new ≡ D.seen disk.old }
+    ensures first { D.tells → IsBlank label.now area (D.seen disk.old) → IfOk result (λ opened. opened.start ≡ 512) }
     ensures durable { D.tells → Only (D.seen disk.old) (D.may_leave disk.old) → OnOk result (Only (D.seen disk.new) (D.may_leave disk.new)) }
     ensures says { D.tells → IfErr result (IsSaidBy (opening label.now area (D.seen disk.old))) }
     ensures cause { IfErr result (IsCounted (D.count disk.old) (D.count disk.new)) }
@@ -113,6 +116,8 @@ fn open<D: Disk>(alloc: Global, disk: &mut D, label: &[u8], area: u64) -> Result
     ensures opens { D.tells → IfOk result (ImageOpens label.now (D.seen disk.new)) }
     ensures reads { D.tells → IfOk result (λ opened. opening label.now area (D.seen disk.old) ≡ Ok opened.records) }
     ensures made { D.tells → IfOk result (λ opened. IsMadeAs label.now area (D.seen disk.old) opened.form opened.area) }
+    ensures same { D.tells → blank_of label.now area (D.seen disk.old) ≡ None → D.seen disk.new ≡ D.seen disk.old }
+    ensures first { D.tells → IsBlank label.now area (D.seen disk.old) → IfOk result (λ opened. opened.start ≡ 512) }
     ensures durable { D.tells → OnOk result (Only (D.seen disk.new) (D.may_leave disk.new)) }
     ensures says { D.tells → IfErr result (IsSaidBy (opening label.now area (D.seen disk.old))) }
     ensures cause { IfErr result (IsCounted (D.count disk.old) (D.count disk.new)) }
@@ -141,6 +146,13 @@ impl<D: Disk> Journal<D> {
         ensures reads { D.tells → IfOk result (λ loaded. opening label.now (new_area limit) (D.seen disk) ≡ Ok loaded.1) }
         ensures stands { D.tells → IfOk result (λ loaded. StandsFor ⟦<D as Disk>⟧ label.now (contents loaded.1) loaded.0) }
         ensures made { D.tells → IfOk result (λ loaded. IsMadeAs label.now (new_area limit) (D.seen disk) (form_of loaded.0) (area_of loaded.0)) }
+
+        // The first area of a new journal is live, and of another one the area that its selector byte names.
+        ensures first { D.tells → IsBlank label.now (new_area limit) (D.seen disk) → IfOk result (λ loaded. first_is_live loaded.0 ≡ true) }
+        ensures live { D.tells → IfOk result (λ loaded. first_is_live loaded.0 ≡ selects_first label.now (D.seen (disk_of loaded.0))) }
+
+        // A disk on which a journal was made reads as before.
+        ensures same { D.tells → blank_of label.now (new_area limit) (D.seen disk) ≡ None → IfOk result (λ loaded. D.seen (disk_of loaded.0) ≡ D.seen disk) }
         ensures goes { IfOk result (λ loaded. loaded.0.stopped ≡ false) }
         ensures says { D.tells → IfErr result (λ failed. IsSaidBy (opening label.now (new_area limit) (D.seen disk)) failed.1) }
         ensures cause { IfErr result (λ failed. IsCounted (D.count disk) (D.count failed.0) failed.1) }

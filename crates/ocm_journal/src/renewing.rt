@@ -1,8 +1,9 @@
-ghost use Rattle.std.specs.Prelude.{◌≡◌, ◌≢◌, ◌⊎◌, ◌<◌, ◌≤◌, ◌+◌, ◌↔◌, ℕ, List, OnOk, IsOk, IsErr, IfErr, IsErrOf, false};
+ghost use Rattle.std.specs.Prelude.{◌≡◌, ◌≢◌, ◌⊎◌, ◌<◌, ◌≤◌, ◌+◌, ◌↔◌, ℕ, List, OnOk, IsOk, IsErr, IfErr, IsErrOf, false, not};
 ghost use Rattle.ocm_disk.specs.Disk.{LeavesOnly};
 ghost use Rattle.ocm_image.specs.Layout.{AreRecords, blocks_size};
+ghost use Rattle.ocm_journal.specs.AfterFaults.{AfterFault};
 ghost use Rattle.ocm_journal.specs.Renewals.{HasCount, stops};
-ghost use Rattle.ocm_journal.specs.Journals.{IsOldOrNew, disk_of, StandsFor};
+ghost use Rattle.ocm_journal.specs.Journals.{IsImageWith, IsOldOrNew, IsStopped, disk_of, first_is_live, StandsFor};
 
 use crate::journal::Journal;
 use crate::steps::put_behind;
@@ -65,6 +66,11 @@ impl<D: Disk> Journal<D> {
         ensures memory { D.tells → (label : List ℕ) (before : List (List ℕ)) → StandsFor ⟦<D as Disk>⟧ label before self.old
             → IsErrOf result RenewFault.NoMemory → StandsFor ⟦<D as Disk>⟧ label before self.new }
         ensures fault { IfErr result (HasCount (D.count (disk_of self.old)) (D.count (disk_of self.new))) }
+        ensures count { OnOk result (D.count (disk_of self.new) ≡ D.count (disk_of self.old)) }
+
+        // Where it found no memory it has made no device call.
+        ensures no_fault { IsErrOf result RenewFault.NoMemory → D.count (disk_of self.new) ≡ D.count (disk_of self.old) }
+        ensures no_call { IsErrOf result RenewFault.NoMemory → (left : ℕ) → (D.burnt (disk_of self.old) left → D.burnt (disk_of self.new) left) × (D.passes (disk_of self.old) left → D.passes (disk_of self.new) left) }
         ensures stopped { self.new.stopped ≡ stops result }
         ensures area { self.new.area ≡ self.old.area }
         ensures form { OnOk result (self.new.form ≡ 2) }
@@ -73,6 +79,13 @@ impl<D: Disk> Journal<D> {
         ensures calls { (left : ℕ) → D.burnt (disk_of self.old) (left + 4) → OnOk result (D.burnt (disk_of self.new) left) }
         ensures fewer { (left : ℕ) → left < 4 → D.burnt (disk_of self.old) left → IsErr result }
         ensures passes { (calls : ℕ) → D.passes (disk_of self.old) (calls + 4) → IsErrOf result RenewFault.Full ⊎ IsErrOf result RenewFault.NoMemory ⊎ (IsOk result × D.passes (disk_of self.new) calls) }
+        ensures live { OnOk result (first_is_live self.new ≡ not (first_is_live self.old)) }
+
+        // What stands on the disk where the calls that were left ended within it. Any selector but 01 makes the second
+        // area live, and so `ee` does.
+        ensures after_fault { D.tells → (label : List ℕ) (before : List (List ℕ)) (left : ℕ) → StandsFor ⟦<D as Disk>⟧ label before self.old → IsStopped self.new
+            → D.passes (disk_of self.old) left → D.burnt (disk_of self.old) left
+            → AfterFault ⟦<D as Disk>⟧ left (first_is_live self.old) (IsImageWith (first_is_live self.old) label self.old.area self.old.form before) (IsImageWith (not (first_is_live self.old)) label self.old.area 2 records.now) (disk_of self.new) }
     {
         if !fits_area(records, self.area) {
             return Err(RenewFault::Full);

@@ -1,7 +1,7 @@
 //! Writes that a crash may cut short.
 ghost use Rattle.std.specs.Prelude.{◌≡◌, ◌<◌, ◌≤◌, ◌+◌, ◌^◌, ◌∷◌, [], ℕ, List, max, length, OnOk, OnErr, IsOk, IsErr};
 ghost use Rattle.ocm_disk.specs.Disk.{Only, Holds, Torn, LeavesOnly, HasCause};
-ghost use Rattle.ocm_journal.specs.Steps.{Switched, InSwitch};
+ghost use Rattle.ocm_journal.specs.Steps.{Switched, InSwitch, PutCutShort, SwitchCutShort};
 
 use ocm_base::Failed;
 use ocm_disk::Disk;
@@ -19,6 +19,8 @@ pub fn put<D: Disk>(disk: &mut D, place: u64, text: &[u8]) -> Result<(), Failed>
     ensures calls { (n : ℕ) → D.burnt disk.old (n + 2) → OnOk result (D.burnt disk.new n) }
     ensures fewer { (n : ℕ) → n < 2 → D.burnt disk.old n → IsErr result }
     ensures passes { (n : ℕ) → D.passes disk.old (n + 2) → place + length text.now ≤ D.size disk.old + D.spare disk.old → IsOk result × D.passes disk.new n }
+    ensures cut_short { D.tells → Only (D.seen disk.old) (D.may_leave disk.old) → (left : ℕ) → D.passes disk.old left → D.burnt disk.old left
+        → place + length text.now ≤ D.size disk.old + D.spare disk.old → PutCutShort ⟦<D as Disk>⟧ left (D.seen disk.old) place text.now disk.new }
     ensures cause { HasCause (D.count disk.old) (D.count disk.new) result }
 {
     disk.write_at(place, text)?;
@@ -47,6 +49,8 @@ pub fn put_behind<D: Disk>(
     ensures calls { (n : ℕ) → D.burnt disk.old (n + 4) → OnOk result (D.burnt disk.new n) }
     ensures fewer { (n : ℕ) → n < 4 → D.burnt disk.old n → IsErr result }
     ensures passes { (n : ℕ) → D.passes disk.old (n + 4) → place + length text.now ≤ D.size disk.old + D.spare disk.old → IsOk result × D.passes disk.new n }
+    ensures cut_short { D.tells → Only (D.seen disk.old) (D.may_leave disk.old) → (left : ℕ) → D.passes disk.old left → D.burnt disk.old left
+        → place + length text.now ≤ D.size disk.old + D.spare disk.old → SwitchCutShort ⟦<D as Disk>⟧ left (D.seen disk.old) place text.now switch byte disk.new }
     ensures cause { HasCause (D.count disk.old) (D.count disk.new) result }
 {
     put(disk, place, text)?;

@@ -1,4 +1,5 @@
-use Rattle.std.proofs.Common.{◌⊎◌, ℕ, List, IfOk, inl, inr, sym, ◌∙◌, subst}
+use Rattle.std.proofs.Common.{◌⊎◌, ℕ, List, IfOk, is_some, inl, inr, sym, ◌∙◌, ap, subst}
+use Rattle.ocm_image.specs.Blank.{blank_of}
 use Rattle.ocm_disk.specs.Disk.{Only}
 use Rattle.ocm_journal.specs.Openings.{IsMadeAs, StaysAsItOpens}
 use Rattle.ocm_journal.proofs.AppendStands.{on_ok}
@@ -20,3 +21,11 @@ pub returns-clause-made : goal.returns-clause-made
 returns-clause-made g c = λ tells.
     let made : List ℕ → Type 0 = λ seen. IfOk c.open_synced.result (λ opened. IsMadeAs c.args.label.now c.args.area seen opened.form opened.area) in
     subst made c.sync.ensures.seen (c.open_synced.ensures.made tells)
+
+pub returns-clause-same : goal.returns-clause-same
+returns-clause-same g c = λ tells none.
+    let d = g.D.Disk in
+    c.open_synced.ensures.same tells (ap (λ (l : List ℕ). blank_of c.args.label.now c.args.area l) c.sync.ensures.seen ∙ none) ∙ c.sync.ensures.seen
+
+pub returns-clause-first : goal.returns-clause-first
+returns-clause-first g c = λ tells blank. c.open_synced.ensures.first tells (ap (λ (l : List ℕ). is_some (blank_of c.args.label.now c.args.area l)) c.sync.ensures.seen ∙ blank)

@@ -40,3 +40,21 @@ returns-clause-made g c = λ tells.
     let size : length seen ≡ c.len-len.result = g.met.D.Disk.sizes c.args.disk.now tells ∙ sym c.len-len.ensures in
     let none : blank_of c.args.label.now c.args.area seen ≡ None = sym (c.in_ok-blank.ensures.blank seen size front) ∙ c.in-None.is in
     if_ok_each c.open_image.result _ (λ opened. none_made c.args.label.now seen c.args.area opened.form opened.area none)
+
+pub returns-in-Some-clause-same : goal.returns-in-Some-clause-same
+returns-in-Some-clause-same g c = λ tells none.
+    let d = g.D.Disk in
+    let seen : List ℕ = d.seen c.args.disk.now in
+    let front = front_is c.deref.result.now c.in_ok-front.front.items seen c.min.result c.deref.ensures.value (c.in_ok-front.ensures.bytes tells) c.in_ok-front.ensures.length in
+    let size : length seen ≡ c.len-len.result = g.met.D.Disk.sizes c.args.disk.now tells ∙ sym c.len-len.ensures in
+    let blank : blank_of c.args.label.now c.args.area seen ≡ Some c.in-Some.blank = sym (c.in_ok-blank.ensures.blank seen size front) ∙ c.in-Some.is in
+    absurd (let e = sym blank ∙ none in cc)
+
+pub returns-clause-first : goal.returns-clause-first
+returns-clause-first g c = λ tells is_blank.
+    let d = g.D.Disk in
+    let seen : List ℕ = d.seen c.args.disk.now in
+    let front = front_is c.deref.result.now c.in_ok-front.front.items seen c.min.result c.deref.ensures.value (c.in_ok-front.ensures.bytes tells) c.in_ok-front.ensures.length in
+    let size : length seen ≡ c.len-len.result = g.met.D.Disk.sizes c.args.disk.now tells ∙ sym c.len-len.ensures in
+    let none : blank_of c.args.label.now c.args.area seen ≡ None = sym (c.in_ok-blank.ensures.blank seen size front) ∙ c.in-None.is in
+    absurd (let e = sym (ap (λ o. is_some o) none) ∙ is_blank in cc)

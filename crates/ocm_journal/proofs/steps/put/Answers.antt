@@ -1,4 +1,5 @@
-use Rattle.std.proofs.Common.{◌≡◌, ◌+◌, inl, inr, subst, arith, length}
+use Rattle.std.proofs.Common.{◌≡◌, ◌+◌, ℕ, List, inl, inr, sym, ◌∙◌, subst, arith, length, replicate}
+use Rattle.ocm_disk.specs.Disk.{Holds}
 use Rattle.std.proofs.lemmas.Bool.{cases_eq}
 use Rattle.ocm_journal.proofs.Moving.{torn_now, wrote, then_synced}
 use Rattle.ocm_journal.proofs.steps.put.Goals as goal
@@ -30,3 +31,35 @@ returns-clause-fewer g c = λ n few b.
           let e : n ≡ 0 + 1 = omega (arith, few, some) in
           absurd (let q = (c.in_ok-sync.ensures.burnt (c.write_at.ensures.burns 0 (subst (λ k. g.D.Disk.burnt c.args.disk.now k) e b))).0 in cc)
     ]
+
+pub returns-in_err-write_at-clause-cut_short : goal.returns-in_err-write_at-clause-cut_short
+returns-in_err-write_at-clause-cut_short g c = λ tells only left p b fits.
+    let d = g.D.Disk in
+    let synced = c.write_at.ensures.synced ∙ only (d.synced c.args.disk.now) (g.met.D.Disk.synced_is_an_image c.args.disk.now) in
+    let torn = only (d.torn c.args.disk.now) (g.met.D.Disk.torn_is_an_image c.args.disk.now) in
+    record {
+      none = λ none. let q = c.write_at.ensures.burnt (subst (λ k. d.burnt c.args.disk.now k) none b) in (q.2, synced, q.3 ∙ torn);
+      one = λ one. absurd (let q = c.in_err-write_at.ensures.passes 0 (subst (λ k. d.passes c.args.disk.now k) one p) fits in let ok = q.0 in cc);
+    }
+
+pub returns-in_err-sync-clause-cut_short : goal.returns-in_err-sync-clause-cut_short
+returns-in_err-sync-clause-cut_short g c = λ tells only left p b fits.
+    let d = g.D.Disk in
+    let synced = c.in_err-sync.ensures.not_synced ∙ c.write_at.ensures.synced ∙ only (d.synced c.args.disk.now) (g.met.D.Disk.synced_is_an_image c.args.disk.now) in
+    let torn = only (d.torn c.args.disk.now) (g.met.D.Disk.torn_is_an_image c.args.disk.now) in
+    record {
+      none = λ none. absurd (let q = (c.in_ok-write_at.ensures.burnt (subst (λ k. d.burnt c.args.disk.now k) none b)).0 in cc);
+      one = λ one. (
+        subst (λ (l : List ℕ). Holds (d.seen c.args.disk.now) c.args.place c.args.text.now l) (sym c.sync.ensures.seen) (c.in_ok-write_at.ensures.written tells),
+        synced,
+        subst (λ (l : List ℕ). Holds l c.args.place (replicate (length c.args.text.now) 238) (d.torn c.sync.new.self)) torn (subst (λ (l : List ℕ). Holds (d.torn c.args.disk.now) c.args.place (replicate (length c.args.text.now) 238) l) (sym c.in_err-sync.ensures.still_torn) (c.in_ok-write_at.ensures.torn tells)),
+      );
+    }
+
+pub returns-clause-cut_short : goal.returns-clause-cut_short
+returns-clause-cut_short g c = λ tells only left p b fits.
+    let d = g.D.Disk in
+    record {
+      none = λ none. absurd (let q = (c.in_ok-write_at.ensures.burnt (subst (λ k. d.burnt c.args.disk.now k) none b)).0 in cc);
+      one = λ one. absurd (let q = (c.in_ok-sync.ensures.burnt (c.write_at.ensures.burns 0 (subst (λ k. d.burnt c.args.disk.now k) one b))).0 in cc);
+    }

@@ -1,7 +1,7 @@
-use Rattle.std.proofs.Common.{◌<◌, length, sym, ◌∙◌, ap, arith}
+use Rattle.std.proofs.Common.{◌≡◌, ◌<◌, ◌+◌, length, sym, ◌∙◌, ap, arith}
 use Rattle.ocm_image.specs.Layout.{live_start}
-use Rattle.ocm_journal.proofs.Appended.{blocks_size-push}
-use Rattle.ocm_journal.proofs.AppendStands.{on_ok, append_moments, append_image}
+use Rattle.ocm_journal.proofs.Appended.{blocks_size-push, length-record_text}
+use Rattle.ocm_journal.proofs.AppendStands.{on_ok, append_moments, append_image, append_after_fault}
 use Rattle.ocm_journal.proofs.journal.Journal.append.Goals as goal
 
 pub returns-then-is_err-clause-any_moment : goal.returns-then-is_err-clause-any_moment
@@ -36,3 +36,10 @@ pub returns-clause-fewer : goal.returns-clause-fewer
 returns-clause-fewer g c = λ left few b.
     let good = sym c.is_err.ensures.value ∙ c.if-is_err.false in
     absurd (let bad = c.put_behind.ensures.fewer left few b in cc)
+
+pub returns-then-is_err-clause-after_fault : goal.returns-then-is_err-clause-after_fault
+returns-then-is_err-clause-after_fault g c = λ tells label records left s stopped p b.
+    let inside : c.args.self.now.gate < length (g.D.Disk.seen c.args.self.now.disk) = omega (arith, c.args.self.now.inside, g.met.D.Disk.sizes c.args.self.now.disk tells) in
+    let text = c.deref.ensures.value ∙ c.fill.ensures.items in
+    let size : length c.deref.result.now ≡ length c.args.bytes.now + 5 = omega (arith, ap length text, length-record_text c.args.bytes.now) in
+    append_after_fault g.D.Disk label records c.args.self.now c.args.bytes.now c.deref.result.now c.put_behind.new.disk text c.requires.size c.if-self-size.false inside s left (c.put_behind.ensures.cut_short tells s.durable left p b (omega (arith, size, c.requires.room.1)))

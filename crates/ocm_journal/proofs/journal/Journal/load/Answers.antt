@@ -1,4 +1,13 @@
+use Rattle.std.proofs.Common.{◌==◌, ap, sym}
+use Rattle.ocm_image.specs.Layout.{contents}
+use Rattle.ocm_journal.proofs.LiveAreas.{with_start}
 use Rattle.ocm_journal.proofs.journal.Journal.load.Goals as goal
 
 pub returns-in-Ok-clause-stands : goal.returns-in-Ok-clause-stands
 returns-in-Ok-clause-stands g c = λ tells. let o = c.in-Ok.ensures.opens tells in record { image = o.0; selector = o.1; start = o.2; gate = o.3; durable = c.in-Ok.ensures.durable tells }
+
+pub returns-in-Ok-clause-live : goal.returns-in-Ok-clause-live
+returns-in-Ok-clause-live g c = λ tells. let o = c.in-Ok.ensures.opens tells in sym (with_start c.args.label.now c.in-Ok.opened.area c.in-Ok.opened.form (contents c.in-Ok.opened.records) (g.D.Disk.seen c.open.new.disk) c.in-Ok.opened.start o.0 o.2).1
+
+pub returns-in-Ok-clause-first : goal.returns-in-Ok-clause-first
+returns-in-Ok-clause-first g c = λ tells blank. ap (λ k. k == 512) (c.in-Ok.ensures.first tells blank)

@@ -1,7 +1,8 @@
-use Rattle.std.proofs.Common.{◌≡◌, ◌≤◌, ◌<◌, ◌+◌, ◌-◌, length, refl, sym, ◌∙◌, arith}
+use Rattle.std.proofs.Common.{◌≡◌, ◌≤◌, ◌<◌, ◌+◌, ◌-◌, length, refl, sym, ◌∙◌, ap, arith}
+use Rattle.ocm_disk.specs.Disk.{Only}
 use Rattle.ocm_image.specs.Layout.{blocks_size}
 use Rattle.ocm_journal.proofs.AppendStands.{on_ok, stands_with}
-use Rattle.ocm_journal.proofs.RenewStands.{length-renewed, renewal_moments, renewal_image}
+use Rattle.ocm_journal.proofs.RenewStands.{length-renewed, renewal_moments, renewal_image, renewal_after_fault}
 use Rattle.ocm_journal.proofs.journal.Journal.renew.Goals as goal
 
 pub returns-in_err-room-clause-memory : goal.returns-in_err-room-clause-memory
@@ -65,3 +66,13 @@ pub returns-clause-fewer : goal.returns-clause-fewer
 returns-clause-fewer g c = λ left few b.
     let good = sym c.is_err.ensures.value ∙ c.if-is_err.false in
     absurd (let bad = c.put_behind.ensures.fewer left few (c.room.ensures.burnt left b) in cc)
+
+pub returns-then-is_err-clause-after_fault : goal.returns-then-is_err-clause-after_fault
+returns-then-is_err-clause-after_fault g c = λ tells label before left s stopped p b.
+    let d = g.D.Disk in
+    let fits : 2 + blocks_size c.args.records.now ≤ c.args.self.now.area = c.if-not-fits_area.ensures.0 refl in
+    let len_is : c.len.result ≡ length (d.seen c.args.self.now.disk) = c.len.ensures ∙ sym (g.met.D.Disk.sizes c.args.self.now.disk tells) in
+    let inside : c.args.self.now.gate < c.len.result = omega (arith, c.args.self.now.inside, c.len.ensures) in
+    let only_mid : Only (d.seen c.room.new.self) (d.may_leave c.room.new.self) = λ x leaves. s.durable x (c.room.ensures.crash tells x leaves) ∙ sym c.room.ensures.seen in
+    let room : c.min-place.result + length c.as_slice.result.now ≤ d.size c.room.new.self + d.spare c.room.new.self = omega (arith, c.in_ok-room.ensures.room, ap length c.as_slice.ensures) in
+    renewal_after_fault g.D.Disk label before c.args.records.now c.args.self.now c.room.new.self c.other_area-other.result.0 c.other_area-other.result.1 c.min-place.result c.len.result c.in_ok-text.text c.as_slice.result.now c.other_area-other.ensures.second c.other_area-other.ensures.first c.requires.sizes fits len_is c.min-place.ensures inside c.as_slice.ensures c.in_ok-text.ensures c.room.ensures.seen s left c.put_behind.new.disk (c.put_behind.ensures.cut_short tells only_mid left (c.room.ensures.passes left p) (c.room.ensures.burnt left b) room)
