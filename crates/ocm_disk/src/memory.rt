@@ -11,7 +11,7 @@ ghost use mathlib.Core.Path.{refl};
 use crate::crashes::Crash;
 use crate::disk::Disk;
 use crate::images::Images;
-use ocm_base::{Failed, NoMemory};
+use ocm_base::{Failed, NoMemory, Trace};
 use std::alloc::Global;
 use std::marker::Model;
 
