@@ -47,7 +47,7 @@ use Rattle.ocm_dav.specs.Files.{at_path, depth, listed, held, granted, located, 
 use Rattle.ocm_dav.specs.Posts.{post_refusal, unless, offer_wanted, notice_wanted, shares_wanted, notifications_wanted, command_wanted, keyed, by_key, local_wanted}
 use Rattle.ocm_dav.specs.Routes as routes
 use Rattle.ocm_dav.specs.Routes.{is_discovery, is_shares, is_notifications, discovery_wanted, below_wanted, path_wanted, target_wanted, head_wanted, wanted_of}
-use Rattle.ocm_dav.specs.Sound.{AsksProperly, HasSpan}
+use Rattle.ocm_dav.specs.Sound.{AsksProperly, HasSpan, AsksOutside}
 use Rattle.ocm_dav.proofs.ShortPaths.{IsShortRead, short-path_of, short-destination_of}
 use Rattle.ocm_dav.proofs.SoundCommands.{Gives, IsProperLocal, proper-record}
 
@@ -59,9 +59,10 @@ pub record IsRanged (shape : Shape) : Type 0 where
 pub record IsSound (w : Wanted) : Type 0 where
   pub proper : AsksProperly w
   pub span : HasSpan w
+  pub outside : AsksOutside w
 
 page : (p : Page) → IsSound (wanted.Page p)
-page p = record { proper = tt; span = tt }
+page p = record { proper = tt; span = tt; outside = tt }
 
 one_of : (b : Bool) (x y : Wanted) → IsSound x → IsSound y → IsSound (if b then x else y)
 one_of true x y p q = p
@@ -74,7 +75,7 @@ both false b p q = p
 -- a carry between short paths
 sound-overwriting : (shape : Shape) (moving : Bool) (from : Segments) (secret : List ℕ) (to : Segments) (o : Option Bool) → IsRanged shape → IsTrue (is_short from) → IsTrue (is_short to) → IsSound (overwriting shape moving from secret to o)
 sound-overwriting shape moving from secret to None r p q = page _
-sound-overwriting shape moving from secret to (Some o) r p q = record { proper = both (is_short from) (is_short to) p q; span = r.span }
+sound-overwriting shape moving from secret to (Some o) r p q = record { proper = both (is_short from) (is_short to) p q; span = r.span; outside = refl }
 
 sound-placed : (fields : List Field) (shape : Shape) (moving : Bool) (from : Segments) (secret : List ℕ) (to : Result Segments DestinationFault) → IsRanged shape → IsTrue (is_short from) → IsShortRead to → IsSound (placed fields shape moving from secret to)
 sound-placed fields shape moving from secret (Ok to) r p q = sound-overwriting shape moving from secret to (overwrite fields) r p q
@@ -98,7 +99,7 @@ sound-carried host fields shape moving from secret r p =
 
 -- an ask for files at a short path
 sound-at_path : (method : Method) (path : Segments) (secret body : List ℕ) (shape : Shape) → IsRanged shape → IsTrue (is_body_of method body) → IsTrue (is_short path) → IsSound (at_path method path secret body shape)
-sound-at_path method path secret body shape r b p = record { proper = both (is_body_of method body) (is_short path) b p; span = r.span }
+sound-at_path method path secret body shape r b p = record { proper = both (is_body_of method body) (is_short path) b p; span = r.span; outside = refl }
 
 sound-listed : (path : Segments) (secret : List ℕ) (shape : Shape) (depth : Option Depth) → IsRanged shape → IsTrue (is_short path) → IsSound (listed path secret shape depth)
 sound-listed path secret shape (Some Zero) r p = sound-at_path methods.List0 path secret [] shape r refl p
@@ -149,17 +150,17 @@ sound-unless (Some p) other s = page p
 sound-unless None other s = s
 
 sound-offer : (shape : Shape) (o : Result Offer RecordFault) → IsRanged shape → IsSound (offer_wanted shape o)
-sound-offer shape (Ok o) r = record { proper = refl; span = r.span }
+sound-offer shape (Ok o) r = record { proper = refl; span = r.span; outside = refl }
 sound-offer shape (Err fault) r = page _
 
 sound-notice : (fresh : List ℕ) (shape : Shape) (n : Result Notice RecordFault) → IsRanged shape → IsSound (notice_wanted fresh shape n)
-sound-notice fresh shape (Ok n) r = record { proper = refl; span = r.span }
+sound-notice fresh shape (Ok n) r = record { proper = refl; span = r.span; outside = refl }
 sound-notice fresh shape (Err fault) r = page _
 
 sound-command : (admin secret fresh : List ℕ) (shape : Shape) (l : Result LocalAsk RecordFault) → IsRanged shape → Gives IsProperLocal l → IsSound (command_wanted admin secret fresh shape l)
 sound-command admin secret fresh shape (Ok (locals.User name)) r p =
-    one_of (bytes_eq secret admin) (wanted.Ask (asks.AddUser name fresh) shape) _ (record { proper = refl; span = r.span }) (page _)
-sound-command admin secret fresh shape (Ok (locals.Command cmd)) r p = record { proper = p secret; span = r.span }
+    one_of (bytes_eq secret admin) (wanted.Ask (asks.AddUser name fresh) shape) _ (record { proper = refl; span = r.span; outside = refl }) (page _)
+sound-command admin secret fresh shape (Ok (locals.Command cmd)) r p = record { proper = p secret; span = r.span; outside = refl }
 sound-command admin secret fresh shape (Err fault) r p = page _
 
 sound-keyed : (admin body fresh : List ℕ) (shape : Shape) (secret : Option (List ℕ)) → IsRanged shape → IsSound (keyed admin body fresh shape secret)
@@ -210,3 +211,7 @@ proper_of (Err failure) w s e = tt
 pub span_of_range : (answer : Result Wanted NoMemory) (w : Wanted) → IsSound w → IfOk answer (λ x. x ≡ w) → IfOk answer HasSpan
 span_of_range (Ok x) w s e = subst HasSpan (sym e) s.span
 span_of_range (Err failure) w s e = tt
+
+pub outside_of : (answer : Result Wanted NoMemory) (w : Wanted) → IsSound w → IfOk answer (λ x. x ≡ w) → IfOk answer AsksOutside
+outside_of (Ok x) w s e = subst AsksOutside (sym e) s.outside
+outside_of (Err failure) w s e = tt

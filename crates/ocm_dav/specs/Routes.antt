@@ -76,8 +76,3 @@ head_wanted config body fresh (heads.Reply status fields) = bad_request (codes "
 -- what a message wants of a server, with these drawn bytes
 abbrev pub wanted_of : Config → Message → List ℕ → Wanted
 wanted_of config message fresh = head_wanted config message.body fresh message.head
-
--- whether a message is a request
-abbrev pub IsRequest : Head → Type 0
-IsRequest (heads.Request method target closing fields) = Unit {0}
-IsRequest (heads.Reply status fields) = ⊥

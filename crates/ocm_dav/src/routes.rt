@@ -1,9 +1,10 @@
 //! The routes of a server.
 
 ghost use Rattle.std.specs.Prelude.{◌≡◌, None, IfOk};
+ghost use Rattle.ocm_http.specs.Messages.{IsRequest};
 ghost use Rattle.ocm_dav.specs.Routes as routes;
-ghost use Rattle.ocm_dav.specs.Routes.{IsRequest, wanted_of};
-ghost use Rattle.ocm_dav.specs.Sound.{AsksProperly, HasSpan};
+ghost use Rattle.ocm_dav.specs.Routes.{wanted_of};
+ghost use Rattle.ocm_dav.specs.Sound.{AsksProperly, AsksOutside, HasSpan};
 
 use crate::configs::Config;
 use crate::files::files_wanted;
@@ -37,6 +38,7 @@ pub fn ask_of(
     ensures wanted { IfOk result (λ wanted. wanted ≡ wanted_of config.now message.now fresh) }
     ensures proper { IfOk result AsksProperly }
     ensures range { IfOk result HasSpan }
+    ensures outside { IfOk result AsksOutside }
 {
     match &message.head {
         Head::Request {

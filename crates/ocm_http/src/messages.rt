@@ -1,3 +1,5 @@
+ghost use Rattle.std.specs.Prelude.{◌≡◌};
+
 use ocm_base::{Bytes, NoMemory};
 use ocm_heads::Head;
 
@@ -15,6 +17,16 @@ pub enum Kind {
 pub struct Message {
     pub head: Head,
     pub body: Bytes,
+}
+
+/// The same message, whose body its copies share.
+pub(crate) fn sharing(message: Message) -> Message
+    ensures { result ≡ message }
+{
+    Message {
+        head: message.head,
+        body: message.body.shared(),
+    }
 }
 
 /// Why a stream is refused. A place is the number of bytes of the stream before it, and ends at 2^64 - 1. The place

@@ -3,7 +3,7 @@ ghost use Rattle.ocm_base.specs.Outside.{Rose, Takes};
 ghost use Rattle.ocm_http.specs.Frames.{Given, Refused, Over};
 ghost use Rattle.ocm_http.specs.Readers.{Keeps, Reads, ReadsMessage, holding, taken_at_most};
 
-use crate::messages::{FrameFault, Kind, Message};
+use crate::messages::{FrameFault, Kind, Message, sharing};
 use crate::reading::read_message;
 use crate::stages::{Rules, past};
 use crate::windows::Window;
@@ -75,9 +75,9 @@ impl Reader {
         past(self.gone, self.window.as_slice().len())
     }
 
-    /// The next message. None where the input has ended between messages, line ends aside. At most 4,096 bytes are
-    /// taken from the source in one read. CR and LF bytes before a head are part of its message, also where the input
-    /// had ended behind them before.
+    /// The next message; copies of a long body share it. None where the input has ended between messages, line ends
+    /// aside. At most 4,096 bytes are taken from the source in one read. CR and LF bytes before a head are part of its
+    /// message, also where the input had ended behind them before.
     pub fn next<S: Source>(&mut self, source: &mut S) -> Result<Option<Message>, FrameFault>
         requires { IsFalse self.old.failed }
         ensures message { IfOk result (λ o. IfSome o (λ m. ReadsMessage self.old (S.left source.old) (S.left source.new) (Given m self.new.held) self.new.held self.new.place)) }
@@ -102,7 +102,7 @@ impl Reader {
             Ok(Some(message)) => {
                 self.place = self.place.saturating_add(gone);
                 self.gone = 0;
-                Ok(Some(message))
+                Ok(Some(sharing(message)))
             }
             Ok(None) => {
                 self.place = self.place.saturating_add(gone);

@@ -1,4 +1,4 @@
-use ocm_base::Bytes;
+use ocm_base::Joined;
 use ocm_davmore::Span;
 
 /// The methods that a target takes, as a page with the status 405 tells them (RFC 9110 section 10.2.1).
@@ -26,10 +26,10 @@ pub struct Shape {
 }
 
 /// The answer to a request.
-#[derive(Debug, Drop, PartialEq, Eq)]
+#[derive(Debug, Drop)]
 pub struct Page {
     /// The status of HTTP.
     pub status: u16,
     /// The whole message, with its first line, its fields and its body (RFC 9112 section 2.1).
-    pub bytes: Bytes,
+    pub bytes: Joined,
 }
