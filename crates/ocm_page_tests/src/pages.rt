@@ -50,7 +50,10 @@ fn plain() -> Shape
 /// The page has this status and these bytes.
 fn expect_page(rt: &impl Abort, page: &Page, status: u16, want: &str) {
     assert_eq!(rt; page.status, status);
-    assert_eq!(rt; page.bytes.as_slice(), want.as_bytes());
+    let (front, back) = page.bytes.parts();
+    let want = want.as_bytes();
+    assert_eq!(rt; page.bytes.len(), want.len());
+    assert!(rt; want.starts_with(front) && want.ends_with(back));
 }
 
 /// The reply's page has this status and these bytes.

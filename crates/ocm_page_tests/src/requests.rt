@@ -63,7 +63,8 @@ fn wanted_text(alloc: Global, wanted: &Wanted) -> Result<String, NoMemory> {
 }
 
 fn page_text(alloc: Global, page: &Page) -> Result<String, NoMemory> {
-    match str::from_utf8(page.bytes.as_slice()) {
+    let whole = page.bytes.whole(alloc)?;
+    match str::from_utf8(whole.as_slice()) {
         Ok(text) => Ok(String::from_str(alloc, text)?),
         Err(_) => Ok(String::new(alloc)),
     }

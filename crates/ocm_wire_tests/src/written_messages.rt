@@ -18,7 +18,7 @@ fn unauthorized(alloc: Global, bodyless: bool, closing: bool) -> Result<Bytes, N
     fields.push(field(alloc, "Content-Type", "application/json")?)?;
     fields.push(field(alloc, "WWW-Authenticate", "Basic realm=\"ocm\"")?)?;
     let body = Bytes::of(alloc, b"{\"message\":\"unauthorized\"}")?;
-    write_reply(alloc, 401, &fields, &body, bodyless, closing)
+    write_reply(alloc, 401, &fields, &body, bodyless, closing)?.whole(alloc)
 }
 
 #[test]
@@ -46,7 +46,8 @@ fn writes_replies(rt: HostRuntime) -> Result<(), Fail> {
         &Bytes::new(alloc),
         false,
         false,
-    )?;
+    )?
+    .whole(alloc)?;
     assert_eq!(rt;
         written.as_slice(),
         b"HTTP/1.1 204 No Content\r\n\r\n".as_slice()
