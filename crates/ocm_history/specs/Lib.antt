@@ -1,0 +1,4 @@
+pub mod Kept
+pub mod Histories
+pub mod Changes
+pub mod Replays
