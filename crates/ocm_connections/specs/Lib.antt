@@ -1,0 +1,6 @@
+pub mod Drawing
+pub mod Parts
+pub mod Responding
+pub mod Sides
+pub mod Talk
+pub mod Ticks

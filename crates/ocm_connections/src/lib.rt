@@ -1,0 +1,21 @@
+//! Connections served message by message, over one object behind a turnstile.
+#![tactic(auto)]
+
+mod answering;
+mod conns;
+mod draws;
+mod endings;
+mod gates;
+mod nodes;
+mod pairs;
+mod responding;
+mod serving;
+
+pub use conns::Conn;
+pub use draws::Draw;
+pub use endings::Ended;
+pub use gates::{GateConn, GateEvent, GateSink, GateSource, gate_conn};
+pub use nodes::Node;
+pub use pairs::{MemConn, Pair, PureConn};
+pub use responding::respond;
+pub use serving::serve_conn;

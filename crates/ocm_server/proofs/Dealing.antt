@@ -1,0 +1,44 @@
+-- Workers changed one after another.
+use Rattle.std.proofs.Common.{◌≡◌, ◌≢◌, ℕ, ◌+◌, ◌<◌, ◌≤◌, ◌⊎◌, List, [], ◌∷◌, length, get_or, set, drop, map, add-one, inl, inr, refl, sym, ap, subst, ◌∙◌, arith}
+use Rattle.std.proofs.lemmas.List.{get_or_default, get_or-set_same, get_or-set_other, drop_all}
+use Rattle.std.proofs.Math.Seq.{drop-cons}
+use Rattle.ocm_turn.specs.declared.view.Call.{Call}
+use Rattle.ocm_turn.specs.Calls.{merged}
+use Rattle.ocm_server.specs.Objects.{gathered}
+
+below_or_at : (i k : ℕ) → i < k + 1 → (i < k) ⊎ (i ≡ k)
+below_or_at i k h = grind arith
+
+module _ {W : Type 0} where
+  -- the workers below a place are changed so, and the others are as they were
+  pub record ChangedBelow (change : ℕ → W → W) (old new : List W) (k : ℕ) : Type 0 where
+    pub changed : (i : ℕ) (d : W) → i < k → get_or new i d ≡ change i (get_or old i d)
+    pub rest : (i : ℕ) (d : W) → k ≤ i → get_or new i d ≡ get_or old i d
+
+  pub changed_none : (change : ℕ → W → W) (old : List W) → ChangedBelow change old old 0
+  changed_none change old = record { changed = λ i d h. absurd (omega (arith, h)); rest = λ i d h. refl }
+
+  pub changed_more : (change : ℕ → W → W) (old new : List W) (k : ℕ) (x y : W) → ChangedBelow change old new k → k < length new → x ≡ get_or new k x → y ≡ change k x
+      → ChangedBelow change old (set new k y) (k + 1)
+  changed_more change old new k x y before at x_is y_is = record {
+    changed = λ i d h. here i d (below_or_at i k h);
+    rest = λ i d h. get_or-set_other new k i y d (λ e. omega (arith, h, e)) ∙ before.rest i d (omega (arith, h));
+  }
+    where
+      same : (d : W) → get_or (set new k y) k d ≡ change k (get_or old k d)
+      same d = get_or-set_same new k y d at ∙ (y_is ∙ ap (change k) (x_is ∙ (get_or_default new k x d at ∙ before.rest k d (omega arith))))
+
+      here : (i : ℕ) (d : W) → (i < k) ⊎ (i ≡ k) → get_or (set new k y) i d ≡ change i (get_or old i d)
+      here i d (inl h) = get_or-set_other new k i y d (λ e. omega (arith, h, e)) ∙ before.changed i d h
+      here i d (inr e) = subst (λ (j : ℕ). get_or (set new k y) j d ≡ change j (get_or old j d)) (sym e) (same d)
+
+  -- gathered calls of the workers from a place on
+  pub gathered_more : (mine : W → List Call) (old new : List W) (k : ℕ) (x : W) (acc acc' : List Call) → k < length old → ((d : W) → get_or new k d ≡ get_or old k d) → k < length new → x ≡ get_or new k x
+      → acc' ≡ merged acc (mine x) → gathered acc' (map mine (drop (k + 1) old)) ≡ gathered acc (map mine (drop k old))
+  gathered_more mine old new k x acc acc' at same at_new x_is acc_is =
+      let x_old : x ≡ get_or old k x = x_is ∙ same x in
+      let split : drop k old ≡ x ∷ drop (k + 1) old = drop-cons old k x at ∙ (λ i. sym x_old i ∷ drop (sym (add-one k) i) old) in
+      ap (λ (a : List Call). gathered a (map mine (drop (k + 1) old))) acc_is ∙ ap (λ (l : List W). gathered acc (map mine l)) (sym split)
+
+  pub gathered_all : (mine : W → List Call) (old : List W) (k : ℕ) (acc : List Call) → length old ≤ k → gathered acc (map mine (drop k old)) ≡ acc
+  gathered_all mine old k acc h = ap (λ (l : List W). gathered acc (map mine l)) (drop_all k old h)

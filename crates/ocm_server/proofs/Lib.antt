@@ -1,0 +1,5 @@
+pub mod Dealing
+pub mod Giving
+pub mod Serving
+pub mod Sharing
+pub mod Visiting

@@ -1,0 +1,4 @@
+pub mod Doors
+pub mod Objects
+pub mod Statuses
+pub mod Visits

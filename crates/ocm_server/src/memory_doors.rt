@@ -1,0 +1,105 @@
+//! Doors in memory.
+
+ghost use Rattle.std.specs.Prelude.{◌≡◌, ◌≤◌, ◌+◌, [], false, Some, None, IfOk, IfSome, OnErr, IsOk, drop, slice_get, option_map, reverse};
+ghost use Rattle.ocm_base.specs.Outside.{Rose};
+ghost use Rattle.ocm_server.specs.Doors.{given, came, over, IsOut};
+
+use crate::doors::Door;
+use crate::returned::Back;
+use ocm_base::{Failed, List, NoMemory};
+use ocm_connections::{Conn, Ended};
+use std::alloc::Global;
+use std::marker::Model;
+use std::snapshot::Snapshot;
+
+/// A door that gives connections out of memory, and keeps those that come back. It never fails, and takes no memory
+/// after it was made.
+#[derive(Drop)]
+pub struct MemDoor<C> {
+    all: Snapshot<List<C>>,
+    given: usize,
+    rest: Vec<C>,
+    back: Vec<Back<C>>,
+    is_over: bool,
+}
+
+impl<C> Model for MemDoor<C> {
+    ghost use Rattle.std.specs.Prelude.{◌≡◌, ◌≤◌, take, drop, length, reverse, vec_len, vec_capacity};
+    ghost use Rattle.ocm_server.specs.Doors.{DoorState};
+
+    ghost Value = { DoorState C };
+
+    ghost view = { λ d. record {
+      door = record { given = reverse (take d.given d.all.value); back = reverse d.back.items; is_over = d.is_over };
+      rest = drop d.given d.all.value;
+    } };
+
+    ghost invariant = { λ d. (reverse d.rest.items ≡ drop d.given d.all.value) × (d.given ≤ length d.all.value)
+        × (vec_len d.back ≤ d.given) × (length d.all.value ≤ vec_capacity d.back) };
+}
+
+impl<C: Drop> MemDoor<C> {
+    /// A door that gives these connections in order, and is then over.
+    pub fn new(alloc: Global, conns: List<C>) -> Result<MemDoor<C>, NoMemory>
+        ensures { IfOk result (λ d. d ≡ record { door = record { given = []; back = []; is_over = false }; rest = conns }) }
+    {
+        let back = Vec::with_capacity(alloc, conns.len())?;
+        let all = Snapshot::of(&conns);
+        let mut rest = conns.into_vec();
+        rest.as_mut_slice().reverse();
+        Ok(MemDoor {
+            all,
+            given: 0,
+            rest,
+            back,
+            is_over: false,
+        })
+    }
+
+    /// The connections that came back, in order.
+    pub fn back(&self) -> &[Back<C>]
+        ensures { result.now ≡ reverse self.now.door.back }
+    {
+        self.back.as_slice()
+    }
+}
+
+impl<C: Conn> Door for MemDoor<C> {
+    type Conn = C;
+
+    ghost told = { λ d. Some d.door };
+
+    ghost faults = { λ _. 0 };
+
+    /// Gives the next of its connections, and None behind the last.
+    fn next(&mut self) -> Result<Option<C>, Failed>
+        ensures given { IfOk result (λ o. IfSome o (λ conn. self.new.door ≡ given conn self.old.door)) }
+        ensures out { IfOk result (λ o. IfSome o (λ _. IsOut (Some self.new.door))) }
+        ensures over { IfOk result (λ o. o ≡ None → self.new.door ≡ over self.old.door) }
+        ensures never_fails { IsOk result }
+        ensures gives { IfOk result (λ o. o ≡ slice_get self.old.rest 0) }
+        ensures rest { self.new.rest ≡ drop 1 self.old.rest }
+    {
+        match self.rest.pop() {
+            Some(conn) => {
+                self.given += 1;
+                Ok(Some(conn))
+            }
+            None => {
+                self.is_over = true;
+                Ok(None)
+            }
+        }
+    }
+
+    fn done(&mut self, conn: C, ended: Ended)
+        requires { IsOut (Some self.old.door) }
+        ensures back { self.new.door ≡ came conn ended self.old.door }
+        ensures rest { self.new.rest ≡ self.old.rest }
+    {
+        match self.back.push(Back { conn, ended }) {
+            Ok(()) => {}
+            Err(_) => unreachable!(),
+        }
+    }
+}

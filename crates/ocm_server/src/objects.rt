@@ -1,0 +1,120 @@
+//! An object served, from its first call to its last.
+
+ghost use Rattle.std.specs.Prelude.{◌≡◌, ◌≤◌, ◌<◌, ◌^◌, ℕ, List, [], length, slice_index_or, IfOk, IfErr};
+ghost use Rattle.ocm_entry.specs.declared.entries.Entry.{Entry};
+ghost use Rattle.ocm_turn.specs.Passes.{Gate, Known, BelongsTo};
+ghost use Rattle.ocm_server.specs.Objects.{Begins, Service, Shift, draw_at};
+ghost use Rattle.ocm_server.specs.Visits.{work};
+
+use crate::doors::Door;
+use crate::passes::{deal, gather};
+use crate::workers::{Rounds, Worker, serve_all};
+use ocm_base::Clock;
+use ocm_connections::{Conn, Node};
+use ocm_dav::Config;
+use ocm_entry::Object;
+use ocm_pump::Dial;
+use ocm_turn::{Founded, Pass, Turnstile};
+use std::alloc::Global;
+use std::sync::Wait;
+use std::thread::Threads;
+
+/// What is left where all workers are done.
+#[derive(Drop)]
+pub struct Finished<T> {
+    /// The object, after all calls.
+    pub value: T,
+    /// How many calls it answered.
+    pub calls: u64,
+    /// How many of these the workers made.
+    pub own: u64,
+    /// How the workers ended.
+    pub rounds: Rounds,
+}
+
+/// Runs the workers at a turnstile, each with a pass of its own, and takes the object out behind the last call.
+fn serve_through<
+    T: Object + Send,
+    L: Door + Send,
+    N: Dial + Send,
+    K: Clock + Send,
+    R: Threads + Wait + Sync,
+>(
+    rt: &R,
+    alloc: Global,
+    config: &Config,
+    workers: &mut [Worker<T, L, N, K>],
+    node: Node<T>,
+    mut pass: Pass<T>,
+    draw_key: [u8; 32],
+) -> Finished<T>
+where
+    T::Terms: Send,
+    L::Conn: Send,
+    requires own { BelongsTo node pass }
+    requires uncalled { pass.mine ≡ [] }
+    requires some { 0 < length workers.old }
+    ensures { Service T.terms T.stands T.legal node pass result.value result.calls result.own
+        (λ all. (i : ℕ) (d : Worker T L N K T.Terms L.Conn) → i < length workers.old →
+        let a = slice_index_or workers.old i d in let b = slice_index_or workers.new i d in
+        Shift L.Conn.sides config.now node pass (draw_at draw_key i)
+        (work (L.told a.door) (L.faults a.door) (N.exchanges a.dial) (N.faults a.dial) a.draw (K.given a.clock) a.pass a.end)
+        (work (L.told b.door) (L.faults b.door) (N.exchanges b.dial) (N.faults b.dial) b.draw (K.given b.clock) b.pass b.end)
+        (slice_index_or all i [])) }
+{
+    deal(&node, &mut pass, workers, draw_key);
+    let rounds = serve_all(rt, alloc, config, &node, workers);
+    gather(&node, &mut pass, workers);
+    let own = pass.calls();
+    let shut = node.close(rt, pass);
+    Finished {
+        value: shut.value,
+        calls: shut.calls,
+        own,
+        rounds,
+    }
+}
+
+/// Serves an object by workers, each in a thread of its own, for `limit` calls at most: makes a turnstile in front of it
+/// with a pass for each worker, runs all workers, and takes the object out behind the last call. The worker at each place
+/// draws by the stream of that number under the key. Where memory is wanting the object comes back, and no door was asked.
+/// It waits, and its return is not promised.
+pub fn serve_object<
+    J: Founded,
+    T: Object + Send,
+    L: Door + Send,
+    N: Dial + Send,
+    K: Clock + Send,
+    R: Threads + Wait + Sync,
+>(
+    rt: &R,
+    alloc: Global,
+    config: &Config,
+    workers: &mut [Worker<T, L, N, K>],
+    value: T,
+    limit: u64,
+    draw_key: [u8; 32],
+) -> Result<Finished<T>, T>
+where
+    T::Terms: Send,
+    L::Conn: Send,
+    requires limit { (1 ≤ limit) × (limit ≤ 2 ^ 63) }
+    requires value { (base : List Entry) × J.known base × T.stands value base [] × T.legal (T.terms value) base [] }
+    requires some { 0 < length workers.old }
+    ensures served { IfOk result (λ f. (gate : Gate) × (first : Known T.Terms) × Begins limit (T.terms value) gate first
+        × (J.known first.base × T.stands value first.base [] × T.legal first.terms first.base [])
+        × Service T.terms T.stands T.legal gate first f.value f.calls f.own
+        (λ all. (i : ℕ) (d : Worker T L N K T.Terms L.Conn) → i < length workers.old →
+        let a = slice_index_or workers.old i d in let b = slice_index_or workers.new i d in
+        Shift L.Conn.sides config.now gate first (draw_at draw_key i)
+        (work (L.told a.door) (L.faults a.door) (N.exchanges a.dial) (N.faults a.dial) a.draw (K.given a.clock) a.pass a.end)
+        (work (L.told b.door) (L.faults b.door) (N.exchanges b.dial) (N.faults b.dial) b.draw (K.given b.clock) b.pass b.end)
+        (slice_index_or all i []))) }
+    ensures same { IfErr result (λ v. v ≡ value) }
+    ensures unasked { IfErr result (λ _. workers.new ≡ workers.old) }
+{
+    match Turnstile::make::<J>(alloc, value, limit) {
+        Ok((node, pass)) => Ok(serve_through(rt, alloc, config, workers, node, pass, draw_key)),
+        Err(value) => Err(value),
+    }
+}

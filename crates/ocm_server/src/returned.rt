@@ -1,0 +1,8 @@
+use ocm_connections::Ended;
+
+/// A connection that came back to its door, with the ending of its service.
+#[derive(Drop)]
+pub struct Back<C> {
+    pub conn: C,
+    pub ended: Ended,
+}

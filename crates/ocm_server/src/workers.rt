@@ -1,0 +1,195 @@
+//! Workers, each with a door of its own.
+
+ghost use Rattle.std.specs.Prelude.{◌≡◌, ◌≤◌, ◌<◌, ℕ, None, All, length, slice_index_or};
+ghost use Rattle.ocm_base.specs.Outside.{Rose};
+ghost use Rattle.ocm_turn.specs.Passes.{BelongsTo};
+ghost use Rattle.ocm_server.specs.Doors.{IsOut};
+ghost use Rattle.ocm_server.specs.Visits.{Comes, Serves, Owns, Worked, ends, desk, work};
+
+use crate::doors::Door;
+use ocm_base::Clock;
+use ocm_connections::{Conn, Draw, Node, serve_conn};
+use ocm_dav::Config;
+use ocm_entry::Object;
+use ocm_pump::Dial;
+use ocm_rounds::pump_round;
+use ocm_turn::Pass;
+use std::alloc::Global;
+use std::sync::Wait;
+use std::thread::{Threads, for_each_mut};
+
+/// How a worker ended.
+#[derive(Clone, Copy, Debug, PartialEq, Eq)]
+pub enum Rounds {
+    /// The door came to its end.
+    Ended,
+    /// The door failed.
+    DoorFault,
+}
+
+/// Serves one connection, hands it back, and makes one round of delivery.
+fn serve_visit<T: Object, L: Door, N: Dial, K: Clock, R: Wait>(
+    rt: &R,
+    alloc: Global,
+    config: &Config,
+    node: &Node<T>,
+    pass: &mut Pass<T>,
+    door: &mut L,
+    dial: &mut N,
+    draw: &mut Draw,
+    clock: &mut K,
+    mut conn: L::Conn,
+)
+    requires own { BelongsTo node.now pass.old }
+    requires out { IsOut (L.told door.old) }
+    ensures comes { Comes L.Conn.sides config.now node.now.limit conn (L.told door.old) (L.told door.new)
+        (desk draw.old (K.given clock.old) (N.exchanges dial.old) pass.old) (desk draw.new (K.given clock.new) (N.exchanges dial.new) pass.new) }
+    ensures own { BelongsTo node.now pass.new }
+    ensures faults { L.faults door.new ≡ L.faults door.old }
+    ensures dial_never_falls { N.faults dial.old ≤ N.faults dial.new }
+{
+    let ended = serve_conn(rt, alloc, config, node, pass, &mut conn, draw, clock);
+    door.done(conn, ended);
+    let _pumped = pump_round(rt, alloc, node, pass, dial);
+}
+
+/// Serves the connections of a door one after another.
+fn serve_door<T: Object, L: Door, N: Dial, K: Clock, R: Wait>(
+    rt: &R,
+    alloc: Global,
+    config: &Config,
+    node: &Node<T>,
+    pass: &mut Pass<T>,
+    door: &mut L,
+    dial: &mut N,
+    draw: &mut Draw,
+    clock: &mut K,
+) -> Rounds
+    requires own { BelongsTo node.now pass.old }
+    ensures serves { Serves L.Conn.sides config.now node.now.limit (L.told door.old) (L.told door.new) (ends result)
+        (desk draw.old (K.given clock.old) (N.exchanges dial.old) pass.old) (desk draw.new (K.given clock.new) (N.exchanges dial.new) pass.new) }
+    ensures own { BelongsTo node.now pass.new }
+    ensures fault { result ≡ Rounds.DoorFault → Rose (L.faults door.old) (L.faults door.new) }
+    ensures never_falls { L.faults door.old ≤ L.faults door.new }
+    ensures dial_never_falls { N.faults dial.old ≤ N.faults dial.new }
+{
+    for _ in rt.forever() {
+        match door.next() {
+            Ok(Some(conn)) => serve_visit(
+                rt, alloc, config, node, pass, door, dial, draw, clock, conn,
+            ),
+            Ok(None) => return Rounds::Ended,
+            Err(_) => return Rounds::DoorFault,
+        }
+    }
+    unreachable!()
+}
+
+/// A worker: its door, its dial, its stream of drawn values, its pass, how it ended, and its clock.
+#[derive(Drop)]
+pub struct Worker<T: Object, L: Door, N: Dial, K: Clock> {
+    pub door: L,
+    pub dial: N,
+    pub draw: Draw,
+    pub pass: Option<Pass<T>>,
+    pub end: Rounds,
+    pub clock: K,
+}
+
+impl<T: Object, L: Door, N: Dial, K: Clock> Worker<T, L, N, K> {
+    /// A worker without a pass, which has not begun.
+    pub fn new(door: L, dial: N, draw: Draw, clock: K) -> Worker<T, L, N, K>
+        ensures { result ≡ record { door = door; dial = dial; draw = draw; pass = None; end = Rounds.Ended; clock = clock } }
+    {
+        Worker {
+            door,
+            dial,
+            draw,
+            pass: None,
+            end: Rounds::Ended,
+            clock,
+        }
+    }
+}
+
+/// Serves the connections of the worker's door one after another: each to its ending, whatever that is, and then makes a
+/// round of delivery. It ends where the door comes to its end or fails. It waits for its turns, and its return is not
+/// promised.
+pub fn serve_worker<T: Object, L: Door, N: Dial, K: Clock, R: Wait>(
+    rt: &R,
+    alloc: Global,
+    config: &Config,
+    node: &Node<T>,
+    worker: &mut Worker<T, L, N, K>,
+)
+    requires own { Owns node.now worker.old.pass }
+    ensures worked { Worked L.Conn.sides config.now node.now
+        (work (L.told worker.old.door) (L.faults worker.old.door) (N.exchanges worker.old.dial) (N.faults worker.old.dial) worker.old.draw (K.given worker.old.clock) worker.old.pass worker.old.end)
+        (work (L.told worker.new.door) (L.faults worker.new.door) (N.exchanges worker.new.dial) (N.faults worker.new.dial) worker.new.draw (K.given worker.new.clock) worker.new.pass worker.new.end) }
+{
+    let taken = worker.pass.take();
+    let mut pass = taken.unwrap();
+    worker.end = serve_door(
+        rt,
+        alloc,
+        config,
+        node,
+        &mut pass,
+        &mut worker.door,
+        &mut worker.dial,
+        &mut worker.draw,
+        &mut worker.clock,
+    );
+    worker.pass = Some(pass);
+}
+
+/// How workers ended: a fault of a door where one of them had it.
+fn rounds_of<T: Object, L: Door, N: Dial, K: Clock>(workers: &[Worker<T, L, N, K>]) -> Rounds
+    ensures ended { result ≡ Rounds.Ended → (i : ℕ) (d : Worker T L N K T.Terms L.Conn) → i < length workers.now → (slice_index_or workers.now i d).end ≡ Rounds.Ended }
+    ensures fault { result ≡ Rounds.DoorFault → (i : ℕ) × (i < length workers.now) × ((d : Worker T L N K T.Terms L.Conn) → (slice_index_or workers.now i d).end ≡ Rounds.DoorFault) }
+{
+    for k in 0..workers.len() {
+        if matches!(workers[k].end, Rounds::DoorFault) {
+            return Rounds::DoorFault;
+        }
+    }
+    Rounds::Ended
+}
+
+/// Runs every worker, each in a thread of its own, and waits for all of them. It answers DoorFault where a worker's door
+/// failed. Its return is not promised.
+pub fn serve_all<
+    T: Object + Send,
+    L: Door + Send,
+    N: Dial + Send,
+    K: Clock + Send,
+    R: Threads + Wait + Sync,
+>(
+    rt: &R,
+    alloc: Global,
+    config: &Config,
+    node: &Node<T>,
+    workers: &mut [Worker<T, L, N, K>],
+) -> Rounds
+where
+    T::Terms: Send,
+    L::Conn: Send,
+    requires some { 0 < length workers.old }
+    requires own { All (λ w. Owns node.now w.pass) workers.old }
+    ensures each { (i : ℕ) (d : Worker T L N K T.Terms L.Conn) → i < length workers.old →
+        let a = slice_index_or workers.old i d in let b = slice_index_or workers.new i d in
+        Worked L.Conn.sides config.now node.now
+        (work (L.told a.door) (L.faults a.door) (N.exchanges a.dial) (N.faults a.dial) a.draw (K.given a.clock) a.pass a.end)
+        (work (L.told b.door) (L.faults b.door) (N.exchanges b.dial) (N.faults b.dial) b.draw (K.given b.clock) b.pass b.end) }
+    ensures ended { result ≡ Rounds.Ended → (i : ℕ) (d : Worker T L N K T.Terms L.Conn) → i < length workers.new → (slice_index_or workers.new i d).end ≡ Rounds.Ended }
+    ensures fault { result ≡ Rounds.DoorFault → (i : ℕ) × (i < length workers.new) × ((d : Worker T L N K T.Terms L.Conn) → (slice_index_or workers.new i d).end ≡ Rounds.DoorFault) }
+{
+    let count = workers.len();
+    for_each_mut(
+        rt,
+        workers,
+        count,
+        &|_i, worker: &mut Worker<T, L, N, K>| serve_worker(rt, alloc, config, node, worker),
+    );
+    rounds_of(workers)
+}
