@@ -74,6 +74,7 @@ impl<D: Disk> Journal<D> {
         ensures stopped { self.new.stopped ≡ stops result }
         ensures area { self.new.area ≡ self.old.area }
         ensures form { OnOk result (self.new.form ≡ 2) }
+        ensures form_kept { IsErrOf result RenewFault.NoMemory → self.new.form ≡ self.old.form }
 
         // Where it answers Ok it has made four device calls, and where fewer are left it fails.
         ensures calls { (left : ℕ) → D.burnt (disk_of self.old) (left + 4) → OnOk result (D.burnt (disk_of self.new) left) }
