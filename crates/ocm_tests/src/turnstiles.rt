@@ -45,11 +45,22 @@ impl Users {
         }
     }
 
-    fn list(&self, key: &Secret) -> Reply
+    /// The answer to any ask.
+    fn answer(&mut self, ask: Ask) -> Reply
+        ensures { (other : asks.Ask) → Fits other result }
+    {
+        match ask {
+            Ask::AddUser { name, fresh } => self.add(name, fresh),
+            Ask::Local { key, cmd } => self.list(key, cmd),
+            other => done(other),
+        }
+    }
+
+    fn list(&self, key: Secret, _cmd: Cmd) -> Reply
         ensures { (ask : asks.Ask) → Fits ask result }
     {
         for row in self.rows.iter() {
-            if row.1 == *key {
+            if row.1 == key {
                 return Reply::Listing {
                     lines: List::new(self.alloc),
                 };
@@ -59,6 +70,12 @@ impl Users {
             why: Why::Unauthorized,
         }
     }
+}
+
+fn done(_ask: Ask) -> Reply
+    ensures { (ask : asks.Ask) → Fits ask result }
+{
+    Reply::Done
 }
 
 impl Object for Users {
@@ -73,11 +90,7 @@ impl Object for Users {
     ghost fits = { λ _ _ _ _ _ legal. legal.0 };
 
     fn act(&mut self, ask: Ask) -> Reply {
-        match ask {
-            Ask::AddUser { name, fresh } => self.add(name, fresh),
-            Ask::Local { key, cmd: _ } => self.list(&key),
-            _ => Reply::Done,
-        }
+        self.answer(ask)
     }
 }
 
