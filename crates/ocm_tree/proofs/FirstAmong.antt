@@ -1,14 +1,14 @@
-use Rattle.std.proofs.Common.{◌≡◌, ℕ, zero, suc, ◌+◌, ◌<◌, ◌≤◌, List, [], ◌∷◌, length, get_or, Bool, true, false, ◌&&◌, ◌||◌, refl, sym, ap, ◌∙◌, subst, arith, ◌⊎◌, inl, inr}
-use Rattle.std.specs.Prelude.{Option, Some, None, nat_eq, nat_lt, slice_get, option_map, if◌then◌else◌}
+use Rattle.std.proofs.Common.{◌≡◌, ℕ, zero, suc, ◌+◌, ◌<◌, ◌≤◌, List, [], ◌∷◌, length, get_or, Bool, true, false, ◌&&◌, ◌||◌, refl, sym, ap, ◌∙◌, arith, ◌⊎◌, inl, inr}
+use Rattle.std.specs.Prelude.{Option, Some, None, nat_eq, nat_lt, option_map, if◌then◌else◌}
 use Rattle.std.specs.List.{list_any}
 use Rattle.std.proofs.lemmas.Bool.Decides.{nat_tests}
-use Rattle.ocm_entry.specs.declared.rows.Standing.{Standing}
 use Rattle.ocm_entry.specs.declared.rows.Node.{Node}
 use Rattle.ocm_tree.specs.declared.orders.NumberedNode.{NumberedNode}
 use Rattle.ocm_tree.specs.Orders.{numbered, is_node}
-use Rattle.ocm_tree.specs.Standings.{first_by, passes_at, sooner, least_among, standing_of}
-use Rattle.ocm_rules.proofs.Lists.{both_pass, not_both}
-use Rattle.ocm_tree.proofs.NumberCounts.{number-there, node_of}
+use Rattle.ocm_tree.specs.Tables.{Slots}
+use Rattle.ocm_tree.specs.Standings.{first_in, passes_at, sooner, least_among, standing_of}
+use Rattle.ocm_rules.proofs.Lists.{not_both}
+use Rattle.ocm_tree.proofs.NumberCounts.{number-there}
 
 -- whether a node has this index
 abbrev pub has : ℕ → NumberedNode → Bool
@@ -115,26 +115,26 @@ least-some test (x ∷ xs) first i h = by_test (λ other. least-some test xs oth
 
 -- ---- the first node
 
-first_by-none : (test : Node → Bool) (ns : List Node) (ms : List ℕ) (k : ℕ) → length ns ≡ length ms → ((j : ℕ) → j < length ms → get_or ms j 0 ≡ k → passes_at test ns j ≡ false) → first_by test ns ms k ≡ None
-first_by-none test [] ms k same h = refl
-first_by-none test (n ∷ ns) [] k same h = refl
-first_by-none test (n ∷ ns) (m ∷ ms) k same h =
-    by_tests (first_by-none test ns ms k (omega (arith, same)) (λ j l e. h (suc j) (omega (arith, l)) e)) (nat_eq m k) refl (test n) refl
+first_in-none : (test : Option Node → Bool) (ns : Slots) (ms : List ℕ) (k : ℕ) → length ns ≡ length ms → ((j : ℕ) → j < length ms → get_or ms j 0 ≡ k → passes_at test ns j ≡ false) → first_in test ns ms k ≡ None
+first_in-none test [] ms k same h = refl
+first_in-none test (n ∷ ns) [] k same h = refl
+first_in-none test (n ∷ ns) (m ∷ ms) k same h =
+    by_tests (first_in-none test ns ms k (omega (arith, same)) (λ j l e. h (suc j) (omega (arith, l)) e)) (nat_eq m k) refl (test n) refl
   where
-    by_tests : first_by test ns ms k ≡ None → (b : Bool) → nat_eq m k ≡ b → (c : Bool) → test n ≡ c → (if (b && c) then Some n.standing else first_by test ns ms k) ≡ None
+    by_tests : first_in test ns ms k ≡ None → (b : Bool) → nat_eq m k ≡ b → (c : Bool) → test n ≡ c → (if (b && c) then option_map (λ (m : Node). m.standing) n else first_in test ns ms k) ≡ None
     by_tests rest true e true f = absurd (not_both (test n) f (h 0 (omega arith) (grind (arith, nat_tests))))
     by_tests rest true e false f = rest
     by_tests rest false e c f = rest
 
-first_by-some : (test : Node → Bool) (ns : List Node) (ms : List ℕ) (k i : ℕ) (d : Node) → length ns ≡ length ms → i < length ms → get_or ms i 0 ≡ k → passes_at test ns i ≡ true →
-    ((j : ℕ) → j < i → get_or ms j 0 ≡ k → passes_at test ns j ≡ false) → first_by test ns ms k ≡ Some (get_or ns i d).standing
-first_by-some test [] ms k i d same l e p h = absurd (omega arith)
-first_by-some test (n ∷ ns) [] k i d same l e p h = absurd (omega arith)
-first_by-some test (n ∷ ns) (m ∷ ms) k zero d same l e p h = let is : nat_eq m k ≡ true = grind (arith, nat_tests) in rw (is, p) refl
-first_by-some test (n ∷ ns) (m ∷ ms) k (suc i) d same l e p h =
-    by_tests (first_by-some test ns ms k i d (omega (arith, same)) (omega (arith, l)) e p (λ j b g. h (suc j) (omega (arith, b)) g)) (nat_eq m k) refl (test n) refl
+first_in-some : (test : Option Node → Bool) (ns : Slots) (ms : List ℕ) (k i : ℕ) → length ns ≡ length ms → i < length ms → get_or ms i 0 ≡ k → passes_at test ns i ≡ true →
+    ((j : ℕ) → j < i → get_or ms j 0 ≡ k → passes_at test ns j ≡ false) → first_in test ns ms k ≡ option_map (λ (m : Node). m.standing) (get_or ns i None)
+first_in-some test [] ms k i same l e p h = absurd (omega arith)
+first_in-some test (n ∷ ns) [] k i same l e p h = absurd (omega arith)
+first_in-some test (n ∷ ns) (m ∷ ms) k zero same l e p h = let is : nat_eq m k ≡ true = grind (arith, nat_tests) in rw (is, p) refl
+first_in-some test (n ∷ ns) (m ∷ ms) k (suc i) same l e p h =
+    by_tests (first_in-some test ns ms k i (omega (arith, same)) (omega (arith, l)) e p (λ j b g. h (suc j) (omega (arith, b)) g)) (nat_eq m k) refl (test n) refl
   where
-    by_tests : first_by test ns ms k ≡ Some (get_or ns i d).standing → (b : Bool) → nat_eq m k ≡ b → (c : Bool) → test n ≡ c → (if (b && c) then Some n.standing else first_by test ns ms k) ≡ Some (get_or ns i d).standing
+    by_tests : first_in test ns ms k ≡ option_map (λ (m : Node). m.standing) (get_or ns i None) → (b : Bool) → nat_eq m k ≡ b → (c : Bool) → test n ≡ c → (if (b && c) then option_map (λ (m : Node). m.standing) n else first_in test ns ms k) ≡ option_map (λ (m : Node). m.standing) (get_or ns i None)
     by_tests rest true e true f = absurd (not_both (test n) f (h 0 (omega arith) (grind (arith, nat_tests))))
     by_tests rest true e false f = rest
     by_tests rest false e c f = rest
@@ -172,45 +172,33 @@ there : (ms : List ℕ) (k : ℕ) (xs : List NumberedNode) → AreOf ms k xs →
 there ms k xs of j l e = of.found j ∙ (ap (λ n. list_any (is_node n j) (numbered 0 ms)) (sym e) ∙ number-there 0 j j ms l (omega arith))
 
 -- where no index is found, nothing stands by the entry
-pub least-first_none : (test : Node → Bool) (ns : List Node) (ms : List ℕ) (k : ℕ) (xs : List NumberedNode) → length ns ≡ length ms → AreOf ms k xs → least_among (passes_at test ns) xs None ≡ None → first_by test ns ms k ≡ None
+pub least-first_none : (test : Option Node → Bool) (ns : Slots) (ms : List ℕ) (k : ℕ) (xs : List NumberedNode) → length ns ≡ length ms → AreOf ms k xs → least_among (passes_at test ns) xs None ≡ None → first_in test ns ms k ≡ None
 least-first_none test ns ms k xs same of h =
-    first_by-none test ns ms k same (λ j l e. (least-none (passes_at test ns) xs None h).1 j (there ms k xs of j l e))
+    first_in-none test ns ms k same (λ j l e. (least-none (passes_at test ns) xs None h).1 j (there ms k xs of j l e))
 
 -- the least index is that of the node that stands by the entry
-pub least-first_some : (test : Node → Bool) (ns : List Node) (ms : List ℕ) (k i : ℕ) (d : Node) (xs : List NumberedNode) → length ns ≡ length ms → AreOf ms k xs → least_among (passes_at test ns) xs None ≡ Some i →
-    (i < length ns) × (first_by test ns ms k ≡ Some (get_or ns i d).standing)
-least-first_some test ns ms k i d xs same of h =
+pub least-first_some : (test : Option Node → Bool) (ns : Slots) (ms : List ℕ) (k i : ℕ) (xs : List NumberedNode) → length ns ≡ length ms → AreOf ms k xs → least_among (passes_at test ns) xs None ≡ Some i →
+    first_in test ns ms k ≡ option_map (λ (m : Node). m.standing) (get_or ns i None)
+least-first_some test ns ms k i xs same of h =
     let least = least-some (passes_at test ns) xs None i h in
     from_one (least.one) least.before_others
   where
     from_one : ((let none : Option ℕ = None in none) ≡ Some i) ⊎ ((list_any (has i) xs ≡ true) × (passes_at test ns i ≡ true)) → ((j : ℕ) → list_any (has j) xs ≡ true → passes_at test ns j ≡ true → i ≤ j) →
-        (i < length ns) × (first_by test ns ms k ≡ Some (get_or ns i d).standing)
+        first_in test ns ms k ≡ option_map (λ (m : Node). m.standing) (get_or ns i None)
     from_one (inl e) others = absurd (cc)
     from_one (inr g) others =
         let at = number-index k i 0 i ms (omega arith) (sym (of.found i) ∙ g.0) in
-        (omega (arith, at.0, same), first_by-some test ns ms k i d same at.0 at.1 g.1 (λ j l e. fails j l (there ms k xs of j (omega (arith, l, at.0)) e) (passes_at test ns j) refl))
+        first_in-some test ns ms k i same at.0 at.1 g.1 (λ j l e. fails j l (there ms k xs of j (omega (arith, l, at.0)) e) (passes_at test ns j) refl)
       where
         fails : (j : ℕ) → j < i → list_any (has j) xs ≡ true → (b : Bool) → passes_at test ns j ≡ b → b ≡ false
         fails j l f true p = absurd (omega (arith, l, others j f p))
         fails j l f false p = refl
 
-get-some : (ns : List Node) (i : ℕ) (d : Node) → i < length ns → slice_get ns i ≡ Some (get_or ns i d)
-get-some [] i d l = absurd (omega arith)
-get-some (n ∷ ns) zero d l = refl
-get-some (n ∷ ns) (suc i) d l = get-some ns i d (omega (arith, l))
-
 -- what stands at the least index stands by the entry
-pub least-first : (test : Node → Bool) (ns : List Node) (ms : List ℕ) (k : ℕ) (xs : List NumberedNode) → length ns ≡ length ms → AreOf ms k xs →
-    standing_of ns (least_among (passes_at test ns) xs None) ≡ first_by test ns ms k
-least-first test [] ms k xs same of = by_index (least_among (passes_at test []) xs None)
+pub least-first : (test : Option Node → Bool) (ns : Slots) (ms : List ℕ) (k : ℕ) (xs : List NumberedNode) → length ns ≡ length ms → AreOf ms k xs →
+    standing_of ns (least_among (passes_at test ns) xs None) ≡ first_in test ns ms k
+least-first test ns ms k xs same of = by_index (least_among (passes_at test ns) xs None) refl
   where
-    by_index : (o : Option ℕ) → standing_of [] o ≡ None
-    by_index None = refl
-    by_index (Some i) = refl
-least-first test (n ∷ ns) ms k xs same of = by_index (least_among (passes_at test (n ∷ ns)) xs None) refl
-  where
-    by_index : (o : Option ℕ) → least_among (passes_at test (n ∷ ns)) xs None ≡ o → standing_of (n ∷ ns) o ≡ first_by test (n ∷ ns) ms k
-    by_index None e = sym (least-first_none test (n ∷ ns) ms k xs same of e)
-    by_index (Some i) e =
-        let first = least-first_some test (n ∷ ns) ms k i n xs same of e in
-        ap (option_map (λ (m : Node). m.standing)) (get-some (n ∷ ns) i n first.0) ∙ sym first.1
+    by_index : (o : Option ℕ) → least_among (passes_at test ns) xs None ≡ o → standing_of ns o ≡ first_in test ns ms k
+    by_index None e = sym (least-first_none test ns ms k xs same of e)
+    by_index (Some i) e = sym (least-first_some test ns ms k i xs same of e)

@@ -1,14 +1,14 @@
-use Rattle.std.proofs.Common.{◌≡◌, ◌≢◌, ℕ, zero, suc, ◌+◌, ◌<◌, ◌≤◌, List, [], ◌∷◌, ◌++◌, length, get_or, Bool, true, false, not, ◌&&◌, cond, refl, sym, ap, ◌∙◌, subst, append_assoc, length-append, arith}
-use Rattle.std.specs.Prelude.{Option, Some, None, filter, nat_eq, if◌then◌else◌, ⊤}
+use Rattle.std.proofs.Common.{◌≡◌, ◌≢◌, ℕ, List, [], ◌∷◌, ◌++◌, length, Bool, true, false, not, ◌&&◌, refl, sym, ap, ◌∙◌, subst, append_assoc, length-append, arith}
+use Rattle.std.specs.Prelude.{Option, Some, None, filter, nat_eq, if◌then◌else◌}
 use Rattle.std.specs.Option.{option_or}
 use Rattle.std.proofs.lemmas.Bool.Decides.{nat_tests}
 use Rattle.std.proofs.lemmas.List.{length-map}
 use Rattle.ocm_entry.specs.declared.rows.Place.{Place}
 use Rattle.ocm_entry.specs.declared.rows.Standing.{Standing}
 use Rattle.ocm_entry.specs.declared.rows.Node.{Node}
-use Rattle.ocm_rules.specs.Files.{Act, Placed, Gone, Carried, same_place, is_at_or_above, moved, with_node, copies, stays, nodes_after}
+use Rattle.ocm_rules.specs.Files.{Act, Placed, Gone, Carried, same_place, is_at_or_above, moved, with_node, copies, nodes_after}
 use Rattle.ocm_rules.specs.State.{node_at, EachOnce}
-use Rattle.ocm_law_origins.specs.Origins.{Origin, with_origin, copied, origin_stays, origins_after, body_from}
+use Rattle.ocm_law_origins.specs.Origins.{copied, origins_after, body_from}
 use Rattle.ocm_tree.specs.Orders.{numbers_where}
 use Rattle.ocm_tree.specs.Standings.{origins_of, is_left, is_copied, first_by}
 use Rattle.ocm_rules.proofs.Places.{same_place-refl, same_place-equal}

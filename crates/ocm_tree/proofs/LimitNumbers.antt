@@ -5,8 +5,7 @@ use Rattle.ocm_types.specs.declared.phases.Which.TheVariants.{FileSize}
 use Rattle.ocm_entry.specs.declared.rows.Node.{Node}
 use Rattle.ocm_rules.specs.Files.{parent_of, with_node, size_of, total_size, child_count, limit_of}
 use Rattle.ocm_rules.specs.State.{node_at}
-use Rattle.ocm_tree.specs.Tables.{size_at, growth, first_passed, index_of}
-use Rattle.ocm_tree.proofs.IndexNumbers.{node_at-none}
+use Rattle.ocm_tree.specs.Tables.{size_at, growth, first_passed}
 use Rattle.ocm_tree.proofs.NodeLists.{total_size-with_node, size_at-le-total_size, length-with_node, child_count-with_node}
 
 -- four numbers within the limits
@@ -16,7 +15,6 @@ pub record AreWithin (bytes all count below : ℕ) : Type 0 where
   pub nodes : count ≤ 65536
   pub children : below ≤ 4096
 
--- where no limit is passed by four numbers, each is within its limit
 pub none-within : (size total count children : ℕ) → cond (nat_lt 1048576 size) (Some FileSize) (first_passed total count children) ≡ None → AreWithin size total count children
 none-within size total count children e = record {
   size = grind (arith, nat_tests);
@@ -36,13 +34,13 @@ limit_of-numbers ns n small =
     rw (small, total, length-with_node ns n, child_count-with_node ns n) refl
 
 -- where no limit is passed by one more node, there is a place for it
-pub limit_of-few : (ns : List Node) (n : Node) → index_of ns n.place ≡ None → limit_of ns n ≡ None → length ns < 65536
+pub limit_of-few : (ns : List Node) (n : Node) → node_at ns n.place ≡ None → limit_of ns n ≡ None → length ns < 65536
 limit_of-few ns n absent e =
-    let longer : length (with_node ns n) ≡ length ns + 1 = rw (node_at-none ns n.place absent) at (length-with_node ns n) in
+    let longer : length (with_node ns n) ≡ length ns + 1 = rw absent at (length-with_node ns n) in
     omega (arith, longer, (limit_of-none ns n e).nodes)
 
 -- where no limit is passed by one more node, its bytes fit
-pub limit_of-light : (ns : List Node) (n : Node) → index_of ns n.place ≡ None → limit_of ns n ≡ None → total_size ns + size_of n.standing ≤ 268435456
+pub limit_of-light : (ns : List Node) (n : Node) → node_at ns n.place ≡ None → limit_of ns n ≡ None → total_size ns + size_of n.standing ≤ 268435456
 limit_of-light ns n absent e =
-    let sums : total_size (with_node ns n) + 0 ≡ total_size ns + size_of n.standing = rw (node_at-none ns n.place absent) at (total_size-with_node ns n) in
+    let sums : total_size (with_node ns n) + 0 ≡ total_size ns + size_of n.standing = rw absent at (total_size-with_node ns n) in
     omega (arith, sums, (limit_of-none ns n e).total)

@@ -1,16 +1,16 @@
-use Rattle.std.proofs.Common.{◌≡◌, ℕ, zero, suc, ◌+◌, ◌-◌, ◌<◌, ◌≤◌, List, [], ◌∷◌, ◌++◌, length, get_or, Bool, true, false, ◌&&◌, ◌||◌, cond, leb, refl, sym, ap, ◌∙◌, arith, subst, slice_set, length-append, ◌⊎◌, inl, inr}
-use Rattle.std.specs.Prelude.{nat_eq, nat_lt, nat_le, not, filter, count_by, All}
+use Rattle.std.proofs.Common.{◌≡◌, ℕ, zero, suc, ◌+◌, ◌<◌, ◌≤◌, List, [], ◌∷◌, ◌++◌, length, get_or, Bool, true, false, ◌&&◌, cond, leb, refl, sym, ap, ◌∙◌, arith, subst, slice_set, length-append, ◌⊎◌, inl, inr}
+use Rattle.std.specs.Prelude.{nat_eq, nat_lt, nat_le, not, filter, count_by}
 use Rattle.std.specs.List.{list_any, remove}
 use Rattle.std.specs.List.Sorted.{IsNonDecreasingBy, IsPermutation}
 use Rattle.std.proofs.lemmas.Bool.Decides.{nat_tests, leb_tells}
 use Rattle.std.proofs.lemmas.List.{length-set}
 use Rattle.std.proofs.lemmas.List.Sums.{sum_by-cons, sum_by-append}
-use Rattle.std.proofs.lemmas.List.Sorted.{IsPermutation-remove, length_permutation, sum_by-IsPermutation, IsNonDecreasingBy-push}
+use Rattle.std.proofs.lemmas.List.Sorted.{IsPermutation-remove, length_permutation, sum_by-IsPermutation}
 use Rattle.std.proofs.lemmas.List.Edits.{length-remove, get_or-remove_below, get_or-remove_above}
 use Rattle.ocm_rules.proofs.Lists.{both_pass}
 use Rattle.ocm_tree.specs.declared.orders.NumberedNode.{NumberedNode}
 use Rattle.ocm_tree.specs.Orders.{numbered, is_node, from_number, IsInOrder}
-use Rattle.ocm_tree.proofs.Parted.{any-count, any-at, any-filter, any-alike, or-later, neither, no-earlier}
+use Rattle.ocm_tree.proofs.Parted.{any-count, any-filter, any-alike, or-later, neither, no-earlier}
 
 -- one where a node passes a test
 abbrev pub one : (NumberedNode → Bool) → NumberedNode → ℕ
@@ -68,37 +68,20 @@ found-nodes numbers order is number index =
     ∙ any-alike (λ node. no_earlier node && (no_later node && has node)) (is_node number index) (λ node. neither node.number number (has node)) order
     ∙ found-in_order numbers order is number index
 
--- a number of a node is no later than the newest
-not-later : (newest from : ℕ) (ns : List ℕ) (number index : ℕ) → All (λ m. m ≤ newest) ns → list_any (is_node number index) (numbered from ns) ≡ true → number ≤ newest
-not-later newest from [] number index all h = absurd (cc)
-not-later newest from (m ∷ ms) number index all h =
-    by_test (not-later newest (from + 1) ms number index (λ k d l. all (suc k) d (omega (arith, l)))) (all 0 0 (omega arith)) (nat_eq m number) refl h
-  where
-    by_test : (list_any (is_node number index) (numbered (from + 1) ms) ≡ true → number ≤ newest) → m ≤ newest → (b : Bool) → nat_eq m number ≡ b → ((b && nat_eq from index) || list_any (is_node number index) (numbered (from + 1) ms)) ≡ true → number ≤ newest
-    by_test rest first true e g = grind (arith, nat_tests)
-    by_test rest first false e g = rest g
-
--- no number in the order is later than the newest
-pub earlier : (numbers : List ℕ) (order : List NumberedNode) (newest : ℕ) → IsInOrder numbers order → All (λ m. m ≤ newest) numbers → (k : ℕ) (d : NumberedNode) → k < length order → (get_or order k d).number ≤ newest
-earlier numbers order newest is all k d l =
-    let node = get_or order k d in
-    let there = any-at (is_node node.number node.index) order k d l (is_node-own node.number node.index) in
-    not-later newest 0 numbers node.number node.index all (sym (found-in_order numbers order is node.number node.index) ∙ there)
-
--- one more node with the newest number, at the end of the order
-pub added-in_order : (numbers : List ℕ) (order : List NumberedNode) (number at : ℕ) → IsInOrder numbers order → All (λ m. m ≤ number) numbers → length numbers < 65536 → at ≡ length numbers →
-    IsInOrder (numbers ++ number ∷ []) (order ++ node_of number at ∷ [])
-added-in_order numbers order number at is newest few e =
+-- one more node with its number
+pub added-in_order : (numbers : List ℕ) (order after : List NumberedNode) (number at : ℕ) → IsInOrder numbers order → at ≡ length numbers → IsPermutation (node_of number at ∷ order) after →
+    IsNonDecreasingBy (λ (node : NumberedNode). node.number) after → IsInOrder (numbers ++ number ∷ []) after
+added-in_order numbers order after number at is e permuted up =
     let length-one : length (numbers ++ number ∷ []) ≡ length numbers + 1 = simp length-append (omega arith) in
     record {
       each = λ n i.
-          let old = sum_by-append (one (is_node n i)) order (node_of number at ∷ []) in
+          let old = sum_by-cons (one (is_node n i)) (node_of number at) order in
+          let kept = sum_by-IsPermutation (one (is_node n i)) (node_of number at ∷ order) after permuted in
           let new = sum_by-append (one (is_node n i)) (numbered 0 numbers) (node_of number at ∷ []) in
           let same = is.each n i in
-          rw (numbered-push 0 at number numbers (omega arith)) (omega (arith, old, new, same));
-      all = let longer : length (order ++ node_of number at ∷ []) ≡ length order + 1 = simp length-append (omega arith) in omega (arith, longer, length-one, is.all);
-      sorted = IsNonDecreasingBy-push (λ (node : NumberedNode). node.number) order (node_of number at) is.sorted (λ d l. earlier numbers order number is newest (length order - 1) d (omega arith));
-      few = omega (arith, length-one, few);
+          rw (numbered-push 0 at number numbers (omega arith)) (omega (arith, old, kept, new, same));
+      all = let longer = length_permutation (node_of number at ∷ order) after permuted in omega (arith, longer, length-one, is.all);
+      sorted = up;
     }
 
 -- a list without one of its items rises where it rose
@@ -122,10 +105,11 @@ node-same number index node h =
     let second : index ≡ node.index = grind (arith, nat_tests, both) in
     rw (first, second) refl
 
--- where a node has the newest number in the place of its own, once it is at the end of the order and no longer where it was
-pub moved-in_order : (numbers : List ℕ) (order : List NumberedNode) (i place number : ℕ) (gone : NumberedNode) → IsInOrder numbers order → All (λ m. m ≤ number) numbers → i < length numbers → place < length order →
-    gone ≡ get_or order place gone → is_node (get_or numbers i 0) i gone ≡ true → IsInOrder (slice_set numbers i number) (remove order place ++ node_of number i ∷ [])
-moved-in_order numbers order i place number gone is newest within there at same =
+-- where a node has another number in the place of its own, once it stands at its place in the order and no longer where it was
+pub moved-in_order : (numbers : List ℕ) (order after : List NumberedNode) (i place number : ℕ) (gone : NumberedNode) → IsInOrder numbers order → i < length numbers → place < length order →
+    gone ≡ get_or order place gone → is_node (get_or numbers i 0) i gone ≡ true → IsPermutation (node_of number i ∷ remove order place) after → IsNonDecreasingBy (λ (node : NumberedNode). node.number) after →
+    IsInOrder (slice_set numbers i number) after
+moved-in_order numbers order after i place number gone is within there at same put up =
     let length-numbers : length (slice_set numbers i number) ≡ length numbers = length-set numbers i number in
     let shorter = length-remove order place there in
     let permuted = IsPermutation-remove order place gone there at in
@@ -133,34 +117,28 @@ moved-in_order numbers order i place number gone is newest within there at same 
     record {
       each = λ n j.
           let p = is_node n j in
-          let new = sum_by-append (one p) (remove order place) (node_of number i ∷ []) in
+          let new = sum_by-cons (one p) (node_of number i) (remove order place) in
+          let now = sum_by-IsPermutation (one p) (node_of number i ∷ remove order place) after put in
           let old = sum_by-cons (one p) gone (remove order place) in
           let kept = sum_by-IsPermutation (one p) order (gone ∷ remove order place) permuted in
           let set = count-set p 0 i i number numbers within (omega arith) in
           let set-own : count_by p (numbered 0 (slice_set numbers i number)) + one p gone ≡ count_by p (numbered 0 numbers) + one p (node_of number i) = subst (λ (x : NumberedNode). count_by p (numbered 0 (slice_set numbers i number)) + one p x ≡ count_by p (numbered 0 numbers) + one p (node_of number i)) own set in
           let each = is.each n j in
-          omega (arith, new, old, kept, set-own, each);
-      all = let longer : length (remove order place ++ node_of number i ∷ []) ≡ length (remove order place) + 1 = simp length-append (omega arith) in omega (arith, longer, shorter, length-numbers, is.all);
-      sorted = IsNonDecreasingBy-push (λ (node : NumberedNode). node.number) (remove order place) (node_of number i) (rises-without order place there is.sorted) (λ d l. last d l (leb_tells place (length (remove order place) - 1)));
-      few = omega (arith, length-numbers, is.few);
+          omega (arith, new, now, old, kept, set-own, each);
+      all = let longer = length_permutation (node_of number i ∷ remove order place) after put in omega (arith, longer, shorter, length-numbers, is.all);
+      sorted = up;
     }
-  where
-    last : (d : NumberedNode) → 0 < length (remove order place) → ((leb place (length (remove order place) - 1) ≡ true) × (place ≤ length (remove order place) - 1)) ⊎ ((leb place (length (remove order place) - 1) ≡ false) × (length (remove order place) - 1 < place)) →
-        (get_or (remove order place) (length (remove order place) - 1) d).number ≤ number
-    last d l (inl h) = let shorter = length-remove order place there in rw (get_or-remove_above order place d (length (remove order place) - 1) h.1 there) (earlier numbers order number is newest (length (remove order place) - 1 + 1) d (omega (arith, shorter, l)))
-    last d l (inr h) = let shorter = length-remove order place there in rw (get_or-remove_below order place d (length (remove order place) - 1) h.1 there) (earlier numbers order number is newest (length (remove order place) - 1) d (omega (arith, shorter, l)))
 
 length-numbered : (from : ℕ) (ns : List ℕ) → length (numbered from ns) ≡ length ns
 length-numbered from [] = refl
 length-numbered from (m ∷ ms) = let rest = length-numbered (from + 1) ms in omega (arith, rest)
 
 -- the nodes, sorted by their numbers
-pub sorted-in_order : (numbers : List ℕ) (order : List NumberedNode) → IsPermutation (numbered 0 numbers) order → IsNonDecreasingBy (λ (node : NumberedNode). node.number) order → length numbers ≤ 65536 → IsInOrder numbers order
-sorted-in_order numbers order permuted up few = record {
+pub sorted-in_order : (numbers : List ℕ) (order : List NumberedNode) → IsPermutation (numbered 0 numbers) order → IsNonDecreasingBy (λ (node : NumberedNode). node.number) order → IsInOrder numbers order
+sorted-in_order numbers order permuted up = record {
   each = λ number index. sum_by-IsPermutation (one (is_node number index)) (numbered 0 numbers) order permuted;
   all = length_permutation (numbered 0 numbers) order permuted ∙ length-numbered 0 numbers;
   sorted = up;
-  few = few;
 }
 
 -- a node is found in the order by its number

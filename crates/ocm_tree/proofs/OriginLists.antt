@@ -1,16 +1,16 @@
-use Rattle.std.proofs.Common.{◌≡◌, ℕ, zero, suc, ◌+◌, ◌<◌, ◌≤◌, List, [], ◌∷◌, ◌++◌, length, map, Bool, true, false, not, ◌&&◌, cond, refl, sym, ap, ◌∙◌, arith, slice_set}
-use Rattle.std.specs.Prelude.{Option, Some, None, option_map, filter, nat_eq, if◌then◌else◌, All}
+use Rattle.std.proofs.Common.{◌≡◌, ℕ, List, [], ◌∷◌, ◌++◌, length, map, Bool, true, false, not, refl, sym, ap, ◌∙◌, arith}
+use Rattle.std.specs.Prelude.{None, filter, if◌then◌else◌}
 use Rattle.ocm_entry.specs.declared.rows.Place.{Place}
 use Rattle.ocm_entry.specs.declared.rows.Node.{Node}
-use Rattle.ocm_rules.specs.Files.{Act, Placed, Gone, Carried, same_place, is_at_or_above, moved, with_node, copies, stays}
-use Rattle.ocm_law_origins.specs.Origins.{Origin, with_origin, copied, origin_stays, origins_after}
+use Rattle.ocm_rules.specs.Files.{same_place, is_at_or_above, moved, with_node, copies, stays}
+use Rattle.ocm_law_origins.specs.Origins.{Origin, with_origin, copied, origin_stays}
 use Rattle.ocm_tree.specs.Orders.{numbers_where}
 use Rattle.ocm_tree.specs.Standings.{origins_of}
 use Rattle.ocm_tree.specs.Tables.{index_of}
 use Rattle.std.proofs.lemmas.List.{length-map}
 use Rattle.ocm_rules.proofs.Nodes.{by_place, copies-one}
 use Rattle.ocm_tree.proofs.Parted.{length-where}
-use Rattle.ocm_tree.proofs.IndexNumbers.{set-step, push-step, push-with_node}
+use Rattle.ocm_tree.proofs.IndexNumbers.{push-step, push-with_node}
 use Rattle.ocm_tree.proofs.Carried.{filter-both, filter-alike, and-true}
 
 abbrev pub origin_at : Place → ℕ → Origin
@@ -88,13 +88,6 @@ origins-with (n ∷ ns) (m ∷ ms) node number same = by_test (origins-with ns m
     by_test rest true = refl
     by_test rest false = ap (λ others. origin_at n.place m ∷ others) rest
 
--- a number is written over that of the node that stood at its place
-pub numbers-set : (ns : List Node) (ms : List ℕ) (place : Place) (number i : ℕ) → length ns ≡ length ms → index_of ns place ≡ Some i → slice_set ms i number ≡ numbers_with ns ms place number
-numbers-set [] ms place number i same e = absurd (cc)
-numbers-set (n ∷ ns) [] place number i same e = absurd (omega arith)
-numbers-set (n ∷ ns) (m ∷ ms) place number i same e =
-    set-step (same_place n.place place) (index_of ns place) m number ms (numbers_with ns ms place number) (λ j f. numbers-set ns ms place number j (omega (arith, same)) f) i e
-
 -- a number of a node that stands where nothing stood is the last
 pub numbers-push : (ns : List Node) (ms : List ℕ) (place : Place) (number : ℕ) → length ns ≡ length ms → index_of ns place ≡ None → numbers_with ns ms place number ≡ ms ++ number ∷ []
 numbers-push [] [] place number same e = refl
@@ -102,15 +95,6 @@ numbers-push [] (m ∷ ms) place number same e = absurd (omega arith)
 numbers-push (n ∷ ns) [] place number same e = absurd (omega arith)
 numbers-push (n ∷ ns) (m ∷ ms) place number same e =
     push-step (same_place n.place place) (index_of ns place) m number ms (numbers_with ns ms place number) (numbers-push ns ms place number (omega (arith, same))) e
-
--- what holds of all origins holds of their numbers
-pub numbers-earlier : (ns : List Node) (ms : List ℕ) (newest : ℕ) → length ns ≡ length ms → All (λ (o : Origin). o.number ≤ newest) (origins_of ns ms) → All (λ m. m ≤ newest) ms
-numbers-earlier [] [] newest same all k d l = absurd (omega arith)
-numbers-earlier [] (m ∷ ms) newest same all k d l = absurd (omega arith)
-numbers-earlier (n ∷ ns) [] newest same all k d l = absurd (omega arith)
-numbers-earlier (n ∷ ns) (m ∷ ms) newest same all zero d l = all 0 (origin_at n.place m) (omega arith)
-numbers-earlier (n ∷ ns) (m ∷ ms) newest same all (suc k) d l =
-    numbers-earlier ns ms newest (omega (arith, same)) (λ j e h. all (suc j) e (omega (arith, h))) k d (omega (arith, l))
 
 -- the origins of what stays at a move are those that stay once both places are cleared
 pub origins-moving : (from to : Place) (os : List Origin) →
@@ -140,11 +124,6 @@ length-copied from to ns ms same =
 pub origins-outside : (there : Place) (ns : List Node) (ms : List ℕ) → length ns ≡ length ms →
     origins_of (filter (λ (n : Node). not (is_at_or_above there n.place)) ns) (numbers_where (λ (n : Node). not (is_at_or_above there n.place)) ns ms) ≡ filter (λ (o : Origin). not (is_at_or_above there o.place)) (origins_of ns ms)
 origins-outside there ns ms same = sym (origins-where (λ p. not (is_at_or_above there p)) ns ms same)
-
--- the origins once a node stands in the place of the one of this index
-pub origins-set : (ns : List Node) (ms : List ℕ) (node : Node) (number i : ℕ) → length ns ≡ length ms → index_of ns node.place ≡ Some i →
-    origins_of (with_node ns node) (slice_set ms i number) ≡ with_origin (origins_of ns ms) (origin_at node.place number)
-origins-set ns ms node number i same found = ap (origins_of (with_node ns node)) (numbers-set ns ms node.place number i same found) ∙ sym (origins-with ns ms node number same)
 
 -- the origins once a node stands where nothing stood
 pub origins-push : (ns : List Node) (ms : List ℕ) (node : Node) (number : ℕ) → length ns ≡ length ms → index_of ns node.place ≡ None →

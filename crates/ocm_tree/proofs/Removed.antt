@@ -1,22 +1,15 @@
-use Rattle.std.proofs.Common.{◌≡◌, ℕ, suc, ◌+◌, ◌-◌, ◌≤◌, List, [], ◌∷◌, ◌++◌, length, take, drop, Bool, true, false, not, refl, sym, ap, ◌∙◌, arith, cond}
-use Rattle.std.specs.Prelude.{Option, Some, None, filter, is_some, if◌then◌else◌}
-use Rattle.std.specs.HashMap as hash
+use Rattle.std.proofs.Common.{◌≡◌, ℕ, suc, ◌+◌, ◌-◌, ◌≤◌, List, [], ◌∷◌, ◌++◌, length, take, drop, Bool, true, false, not, refl, sym, ap, ◌∙◌, arith}
+use Rattle.std.specs.Prelude.{filter, if◌then◌else◌}
 use Rattle.std.proofs.lemmas.List.{take-append-drop}
 use Rattle.std.proofs.lemmas.List.Filters.{length-filter_both, sum_by-filter_both}
 use Rattle.std.proofs.Math.Seq.{take-append-add}
 use Rattle.ocm_path.specs.Paths.{Segments, parent}
 use Rattle.ocm_entry.specs.declared.rows.Place.{Place}
 use Rattle.ocm_entry.specs.declared.rows.Node.{Node}
-use Rattle.ocm_entry.specs.declared.rows.Standing.{Standing}
 use Rattle.ocm_rules.specs.Files.{same_place, is_at_or_above, parent_of, size_of, total_size, child_count}
-use Rattle.ocm_rules.specs.State.{node_at, EachOnce}
 use Rattle.ocm_rules.proofs.Lists.{not_both}
 use Rattle.ocm_rules.proofs.Places.{same_place-Decides, same_place-equal, above-split, above-from}
-use Rattle.ocm_rules.proofs.Nodes.{node_at-filter}
-use Rattle.ocm_tree.specs.Tables.{Index, IsTable, index_of, counted, present}
 use Rattle.ocm_tree.proofs.NodeLists.{child_count-cons}
-use Rattle.ocm_tree.proofs.Numbered.{index_of-node_at}
-use Rattle.ocm_tree.proofs.Once.{once-filter}
 
 -- ---- places below others
 
@@ -86,49 +79,6 @@ child_count-inside there [] q inside = refl
 child_count-inside there (n ∷ ns) q inside =
     none-step there n ns q inside (child_count-inside there ns q inside) (is_at_or_above there n.place) refl (same_place (parent_of n.place) q) refl
 
-zero-either : (b : Bool) → ◌≡◌ {A = ℕ} (if b then 0 else 0) 0
-zero-either true = refl
-zero-either false = refl
-
-gone-step : (there : Place) (n : Node) (ns : List Node) (q : Place) → is_at_or_above there q ≡ false → node_at ns n.place ≡ None →
-    child_count (outside there ns) q + (if same_place (parent_of there) q then present (node_at ns there) else 0) ≡ child_count ns q →
-    (b : Bool) → is_at_or_above there n.place ≡ b → (c : Bool) → same_place n.place there ≡ c → (d : Bool) → same_place (parent_of n.place) q ≡ d →
-    child_count (if not b then n ∷ outside there ns else outside there ns) q + (if same_place (parent_of there) q then present (if c then Some n.standing else node_at ns there) else 0) ≡ child_count (n ∷ ns) q
-gone-step there n ns q away absent rest true hb true hc d hd =
-    let same = same_place-equal n.place there hc in
-    let nothing : node_at ns there ≡ None = rw (← same) absent in
-    let none : (if same_place (parent_of there) q then present (node_at ns there) else 0) ≡ 0 = ap (λ o. if same_place (parent_of there) q then present o else 0) nothing ∙ zero-either (same_place (parent_of there) q) in
-    let first : ◌≡◌ {A = ℕ} (if same_place (parent_of there) q then 1 else 0) (cond (same_place (parent_of n.place) q) 1 0) = ap (λ (p : Place). if same_place (parent_of p) q then 1 else 0) (sym same) in
-    let all = child_count-cons n ns q in
-    omega (arith, all, first, none, rest)
-gone-step there n ns q away absent rest true hb false hc true hd =
-    let lies = same_place-equal (parent_of n.place) q hd in
-    absurd (not_both (is_at_or_above there q) (ap (is_at_or_above there) (sym lies) ∙ above-parent there n.place hb hc) away)
-gone-step there n ns q away absent rest true hb false hc false hd = rest ∙ sym (child_count-cons n ns q ∙ rw hd (omega arith))
-gone-step there n ns q away absent rest false hb true hc d hd =
-    let same = same_place-equal n.place there hc in
-    absurd (not_both (is_at_or_above there n.place) (ap (is_at_or_above there) same ∙ above-refl there) hb)
-gone-step there n ns q away absent rest false hb false hc d hd =
-    let more = child_count-cons n (outside there ns) q in
-    let all = child_count-cons n ns q in
-    omega (arith, more, all, rest)
-
--- how many nodes lie in a collection elsewhere: those that stay, and what stood at the place where it lay there
-pub child_count-outside : (there : Place) (ns : List Node) (q : Place) → EachOnce ns → is_at_or_above there q ≡ false →
-    child_count (outside there ns) q + (if same_place (parent_of there) q then present (node_at ns there) else 0) ≡ child_count ns q
-child_count-outside there [] q once away = let zero = zero-either (same_place (parent_of there) q) in omega (arith, zero)
-child_count-outside there (n ∷ ns) q once away =
-    gone-step there n ns q away once.0 (child_count-outside there ns q once.1 away) (is_at_or_above there n.place) refl (same_place n.place there) refl (same_place (parent_of n.place) q) refl
-
--- the counts of the collections once what lies at a place and below it is gone
-pub counts-outside : (there : Place) (ns : List Node) (q : Place) → EachOnce ns →
-    (if is_at_or_above there q then 0 else child_count ns q - (if same_place (parent_of there) q then present (node_at ns there) else 0)) ≡ child_count (outside there ns) q
-counts-outside there ns q once = by_test (is_at_or_above there q) refl
-  where
-    by_test : (b : Bool) → is_at_or_above there q ≡ b → (if b then 0 else child_count ns q - (if same_place (parent_of there) q then present (node_at ns there) else 0)) ≡ child_count (outside there ns) q
-    by_test true h = sym (child_count-inside there ns q h)
-    by_test false h = let sums = child_count-outside there ns q once h in omega (arith, sums)
-
 -- no more nodes and bytes stay than there were
 pub length-outside : (there : Place) (ns : List Node) → length (outside there ns) ≤ length ns
 length-outside there ns =
@@ -139,36 +89,3 @@ pub total_size-outside : (there : Place) (ns : List Node) → total_size (outsid
 total_size-outside there ns =
     let both = sum_by-filter_both (λ (n : Node). not (is_at_or_above there n.place)) (λ (n : Node). not (not (is_at_or_above there n.place))) (λ n. refl) (λ (n : Node). size_of n.standing) ns in
     omega (arith, both)
-
-none-either : (b : Bool) (o : Option ℕ) (s : Option Standing) → is_some o ≡ is_some s → is_some (if b then None else o) ≡ is_some (if not b then s else None)
-none-either true o s h = refl
-none-either false o s h = h
-
--- the places that keep a number are those at which something stays
-pub known-outside : (there : Place) (ns : List Node) (q : Place) (number : Option ℕ) → number ≡ (if is_at_or_above there q then None else index_of ns q) → is_some number ≡ is_some (index_of (outside there ns) q)
-known-outside there ns q number h =
-    ap is_some h
-    ∙ none-either (is_at_or_above there q) (index_of ns q) (node_at ns q) (index_of-node_at ns q)
-    ∙ ap is_some (sym (node_at-filter (λ p. not (is_at_or_above there p)) ns q))
-    ∙ sym (index_of-node_at (outside there ns) q)
-
--- the indexes and the sum once what lies at a place and below it is gone
-pub removed-IsTable : (root : Standing) (ns : List Node) (there : Place) (older_places older_children places children : Index) (total left : ℕ) → IsTable root ns older_places older_children total →
-    ((q : Place) → hash.get same_place places q ≡ index_of (outside there ns) q) →
-    ((q : Place) → counted (hash.get same_place children q) ≡ (if is_at_or_above there q then 0 else counted (hash.get same_place older_children q) - (if same_place (parent_of there) q then present (node_at ns there) else 0))) →
-    left ≡ total_size (outside there ns) → IsTable root (outside there ns) places children left
-removed-IsTable root ns there older_places older_children places children total left h found counts sum =
-    let fewer = length-outside there ns in
-    let lighter = total_size-outside there ns in
-    record {
-      at_root = h.at_root;
-      once = once-filter (λ p. not (is_at_or_above there p)) ns h.once;
-      found = found;
-      counts = λ q.
-          counts q
-          ∙ ap (λ count. if is_at_or_above there q then 0 else count - (if same_place (parent_of there) q then present (node_at ns there) else 0)) (h.counts q)
-          ∙ counts-outside there ns q h.once;
-      adds_up = sum;
-      few = omega (arith, fewer, h.few);
-      light = omega (arith, lighter, h.light);
-    }

@@ -1,10 +1,11 @@
-use Rattle.std.specs.Prelude.{ℕ, ◌+◌, ◌&&◌, Bool, List, if◌then◌else◌, length, Option, Some}
+use Rattle.std.specs.Prelude.{◌≡◌, ℕ, ◌+◌, ◌&&◌, Bool, List, if◌then◌else◌, false, length, Option, Some, None}
 use Rattle.ocm_types.specs.declared.phases.Which.{Which}
 use Rattle.ocm_entry.specs.declared.rows.Place.{Place}
 use Rattle.ocm_entry.specs.declared.rows.Node.{Node}
 use Rattle.ocm_rules.specs.Files.{same_place, is_at_or_above, parent_of, moved, stays, size_of, is_too_long, total_size, child_count, nodes_after, Carried}
 use Rattle.ocm_tree.specs.Tables.{first_passed}
 use Rattle.ocm_tree.specs.declared.amounts.Amount.{Amount}
+use Rattle.ocm_tree.specs.declared.amounts.Amounts.{Amounts}
 use Rattle.ocm_tree.specs.declared.amounts.Amount.TheVariants.{Bytes, Nodes, Siblings}
 
 -- what callers see of a copy or move that is about to be made: where from and to, whether it moves, and the nodes that it makes
@@ -29,6 +30,17 @@ abbrev pub amount_of : Amount → Place → Place → Bool → Node → ℕ
 amount_of what from to moving n =
     (if stays from to moving n then weight what to n else 0) + (if is_at_or_above from n.place then weight what to (carried from to n) else 0)
 
+-- what the node of a slot adds to an amount after a copy or move
+abbrev pub amount_in : Amount → Place → Place → Bool → Option Node → ℕ
+amount_in what from to moving None = 0
+amount_in what from to moving (Some n) = amount_of what from to moving n
+
+-- these are the amounts that a function tells
+pub record AreAmounts (amounts : Amounts) (amount : Amount → ℕ) : Type 0 where
+  pub bytes : amounts.bytes ≡ amount Bytes
+  pub nodes : amounts.nodes ≡ amount Nodes
+  pub siblings : amounts.siblings ≡ amount Siblings
+
 -- the nodes after a copy or move
 abbrev pub after : Place → Place → Bool → List Node → List Node
 after from to moving nodes = nodes_after (Some (Carried from to moving)) nodes
@@ -36,6 +48,11 @@ after from to moving nodes = nodes_after (Some (Carried from to moving)) nodes
 -- whether a node is copied to a path that is too long
 abbrev pub makes_long_path : Place → Place → Node → Bool
 makes_long_path from to n = is_at_or_above from n.place && is_too_long (carried from to n)
+
+-- whether the node of a slot is copied to a path that is too long
+abbrev pub makes_long : Place → Place → Option Node → Bool
+makes_long from to None = false
+makes_long from to (Some n) = makes_long_path from to n
 
 -- the first limit that is passed by the numbers of what stands after a copy or move
 abbrev pub limit_after : List Node → Place → Place → Bool → Option Which

@@ -4,4 +4,5 @@ pub mod Listing
 pub mod Orders
 pub mod Standings
 pub mod Changes
+pub mod Tags
 pub mod Trees

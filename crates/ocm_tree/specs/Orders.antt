@@ -1,8 +1,8 @@
-use Rattle.std.specs.Prelude.{◌≡◌, ℕ, ◌+◌, ◌≤◌, List, [], ◌∷◌, length, nat_eq, nat_lt, not, ◌&&◌, Bool, count_by, filter, if◌then◌else◌}
+use Rattle.std.specs.Prelude.{◌≡◌, ℕ, ◌+◌, List, [], ◌∷◌, length, nat_eq, nat_lt, not, ◌&&◌, Bool, count_by, filter, if◌then◌else◌}
 use Rattle.std.specs.List.Sorted.{IsNonDecreasingBy}
 use Rattle.ocm_tree.specs.declared.orders.NumberedNode.{NumberedNode}
 
--- the nodes with their numbers, in the order of the nodes, where the first has this index
+-- the nodes with their numbers, in the order of the slots, where the first has this index
 abbrev pub numbered : ℕ → List ℕ → List NumberedNode
 numbered index [] = []
 numbered index (number ∷ numbers) = record { number = number; index = index } ∷ numbered (index + 1) numbers
@@ -20,7 +20,6 @@ pub record IsInOrder (numbers : List ℕ) (order : List NumberedNode) : Type 0 w
   pub each : (number index : ℕ) → count_by (is_node number index) order ≡ count_by (is_node number index) (numbered 0 numbers)
   pub all : length order ≡ length numbers
   pub sorted : IsNonDecreasingBy (λ (node : NumberedNode). node.number) order
-  pub few : length numbers ≤ 65536
 
 -- what callers see of the numbers of nodes: the numbers in the order of the nodes, and for how many more there is room without memory
 pub record NumberLists : Type 0 where

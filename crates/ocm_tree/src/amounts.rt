@@ -1,8 +1,12 @@
-ghost use Rattle.std.specs.Prelude.{◌≡◌, ◌≤◌, sum_by};
+ghost use Rattle.std.specs.Prelude.{◌≡◌, ◌≤◌, ◌||◌, Some, None, sum_by, if◌then◌else◌};
 ghost use Rattle.std.specs.List.{list_any};
-ghost use Rattle.ocm_rules.specs.Files.{same_place, parent_of, moved, stays, copies, path_limit};
-ghost use Rattle.ocm_tree.specs.Carries.{carried, weight, amount_of, makes_long_path};
+ghost use Rattle.ocm_rules.specs.Files.{same_place, parent_of, moved, stays};
+ghost use Rattle.ocm_types.specs.declared.phases.Which.TheVariants.{PathLength};
+ghost use Rattle.ocm_tree.specs.declared.amounts.Amount.{Amount};
+ghost use Rattle.ocm_tree.specs.declared.amounts.Amount.TheVariants.{Bytes};
+ghost use Rattle.ocm_tree.specs.Carries.{amount_of, amount_in, AreAmounts, makes_long_path, makes_long};
 
+use crate::kept::KeptNode;
 use crate::limits::size_of;
 use crate::moving::joined_len;
 use crate::places::{are_siblings, is_at_or_above};
@@ -23,22 +27,21 @@ pub enum Amount {
     Siblings,
 }
 
+/// All amounts.
+#[derive(Clone, Copy, Debug, PartialEq, Eq)]
+pub struct Amounts {
+    pub bytes: u64,
+    pub nodes: u64,
+    pub siblings: u64,
+    /// Whether a copy has a path that is too long.
+    pub long: bool,
+}
+
 /// Whether a node stays where it stands at a copy or move.
 pub fn stays(from: &Place, to: &Place, moving: bool, node: &Node) -> bool
     ensures { result ≡ stays from.now to.now moving node.now }
 {
     !is_at_or_above(to, &node.place) && !(moving && is_at_or_above(from, &node.place))
-}
-
-/// What a node adds to an amount where it stands.
-fn weight(what: Amount, to: &Place, node: &Node) -> u64
-    ensures { result ≡ weight what to.now node.now }
-{
-    match what {
-        Amount::Bytes => size_of(&node.standing),
-        Amount::Nodes => 1,
-        Amount::Siblings => u64::from(are_siblings(&node.place, to)),
-    }
 }
 
 /// Whether the copy of a node lies in the collection in which the copy of all lies.
@@ -50,45 +53,73 @@ fn is_copied_beside(from: &Place, to: &Place, node: &Node) -> bool
     rest == 0 || rest == 1 && to.path.is_root()
 }
 
-/// What a node adds to an amount where it is copied to.
-fn copied_weight(what: Amount, from: &Place, to: &Place, node: &Node) -> u64
-    ensures { result ≡ weight what to.now (carried from.now to.now node.now) }
+/// What a node adds to the amounts after a copy or move: what it is worth where it stays, and what it
+/// is worth where it is copied to.
+fn amounts_of(from: &Place, to: &Place, moving: bool, node: &Node) -> Amounts
+    requires { amount_of Bytes from.now to.now moving node.now ≤ 4294967296 }
+    ensures amounts { AreAmounts result (λ what. amount_of what from.now to.now moving node.now) }
+    ensures long { result.long ≡ makes_long_path from.now to.now node.now }
 {
-    match what {
-        Amount::Bytes => size_of(&node.standing),
-        Amount::Nodes => 1,
-        Amount::Siblings => u64::from(is_copied_beside(from, to, node)),
+    let stayed = stays(from, to, moving, node);
+    let copied = is_at_or_above(from, &node.place);
+    let beside = stayed && are_siblings(&node.place, to);
+    let copied_beside = copied && is_copied_beside(from, to, node);
+    let size = size_of(&node.standing);
+    Amounts {
+        bytes: times(stayed, size) + times(copied, size),
+        nodes: u64::from(stayed) + u64::from(copied),
+        siblings: u64::from(beside) + u64::from(copied_beside),
+        long: makes_long_path(from, to, node),
     }
 }
 
-/// What a node adds to an amount after a copy or move.
-fn amount_of(what: Amount, from: &Place, to: &Place, moving: bool, node: &Node) -> u64
-    requires { amount_of what from.now to.now moving node.now ≤ 4294967296 }
-    ensures { result ≡ amount_of what from.now to.now moving node.now }
+/// A number, or none of it.
+fn times(counts: bool, number: u64) -> u64
+    ensures { result ≡ (if counts then number else 0) }
 {
-    let stayed = if stays(from, to, moving, node) {
-        weight(what, to, node)
-    } else {
-        0
-    };
-    let copied = if is_at_or_above(from, &node.place) {
-        copied_weight(what, from, to, node)
-    } else {
-        0
-    };
-    stayed + copied
+    if counts { number } else { 0 }
 }
 
-/// An amount of the nodes after a copy or move.
-pub fn amount_after(what: Amount, from: &Place, to: &Place, moving: bool, nodes: &[Node]) -> u64
-    requires { sum_by (amount_of what from.now to.now moving) nodes.now ≤ 4294967296 }
-    ensures { result ≡ sum_by (amount_of what from.now to.now moving) nodes.now }
+/// What the node of a slot adds to the amounts after a copy or move.
+fn amounts_in(from: &Place, to: &Place, moving: bool, slot: &Option<KeptNode>) -> Amounts
+    requires { amount_in Bytes from.now to.now moving slot.now ≤ 4294967296 }
+    ensures amounts { AreAmounts result (λ what. amount_in what from.now to.now moving slot.now) }
+    ensures long { result.long ≡ makes_long from.now to.now slot.now }
 {
-    let mut amount = 0;
-    for node in nodes {
-        amount += amount_of(what, from, to, moving, node);
+    match slot {
+        Some(kept) => amounts_of(from, to, moving, kept.node()),
+        None => Amounts {
+            bytes: 0,
+            nodes: 0,
+            siblings: 0,
+            long: false,
+        },
     }
-    amount
+}
+
+/// The amounts of the nodes after a copy or move, in one pass.
+pub fn amounts_after(from: &Place, to: &Place, moving: bool, slots: &[Option<KeptNode>]) -> Amounts
+    requires { (what : Amount) → sum_by (amount_in what from.now to.now moving) slots.now ≤ 4294967296 }
+    ensures amounts { AreAmounts result (λ what. sum_by (amount_in what from.now to.now moving) slots.now) }
+    ensures long { result.long ≡ list_any (makes_long from.now to.now) slots.now }
+{
+    let mut bytes = 0;
+    let mut nodes = 0;
+    let mut siblings = 0;
+    let mut long = false;
+    for slot in slots {
+        let more = amounts_in(from, to, moving, slot);
+        bytes += more.bytes;
+        nodes += more.nodes;
+        siblings += more.siblings;
+        long = is_either(long, more.long);
+    }
+    Amounts {
+        bytes,
+        nodes,
+        siblings,
+        long,
+    }
 }
 
 /// Whether a node is copied to a path that is too long.
@@ -100,20 +131,16 @@ fn makes_long_path(from: &Place, to: &Place, node: &Node) -> bool
             > MOST_PATH_BYTES + joined_len(&from.path)
 }
 
-/// The limit on the bytes of a path, where a copy passes it.
-pub fn limit_of_paths(from: &Place, to: &Place, nodes: &[Node]) -> Option<Which>
-    ensures { result ≡ path_limit (copies from.now to.now nodes.now) }
+/// Whether one of two tests passes.
+fn is_either(first: bool, second: bool) -> bool
+    ensures { result ≡ (first || second) }
 {
-    if make_long_paths(from, to, nodes) {
-        Some(Which::PathLength)
-    } else {
-        None
-    }
+    first || second
 }
 
-/// Whether a copy makes a path that is too long.
-fn make_long_paths(from: &Place, to: &Place, nodes: &[Node]) -> bool
-    ensures { result ≡ list_any (makes_long_path from.now to.now) nodes.now }
+/// The limit on the bytes of a path, where a path is too long.
+pub fn limit_of_paths(long: bool) -> Option<Which>
+    ensures { result ≡ (if long then Some PathLength else None) }
 {
-    nodes.iter().any(|node| makes_long_path(from, to, node))
+    if long { Some(Which::PathLength) } else { None }
 }

@@ -1,12 +1,14 @@
 ghost use Rattle.std.specs.Prelude.{◌≡◌, ◌≤◌, [], length, false, vec_capacity, IfOk};
 ghost use Rattle.std.specs.List.{list_any};
 ghost use Rattle.ocm_rules.specs.Files.{copies, is_too_long};
+ghost use Rattle.ocm_tree.specs.Tables.{somes};
 ghost use Rattle.ocm_tree.specs.Carries.{carried, makes_long_path};
 
+use crate::kept::KeptNode;
 use crate::places::is_at_or_above;
 use crate::plans::PlannedNode;
 use ocm_base::NoMemory;
-use ocm_entry::{Node, Place};
+use ocm_entry::Place;
 use std::alloc::Global;
 use std::marker::Model;
 
@@ -40,12 +42,12 @@ impl PlannedCarry {
         from: &Place,
         to: &Place,
         moving: bool,
-        nodes: &[Node],
+        slots: &[Option<KeptNode>],
     ) -> Result<PlannedCarry, NoMemory>
-        requires within { list_any (makes_long_path from.now to.now) nodes.now ≡ false }
-        ensures { IfOk result (λ planned. planned ≡ record { from = from.now; to = to.now; moving = moving; nodes = copies from.now to.now nodes.now }) }
+        requires within { list_any (makes_long_path from.now to.now) (somes slots.now) ≡ false }
+        ensures { IfOk result (λ planned. planned ≡ record { from = from.now; to = to.now; moving = moving; nodes = copies from.now to.now (somes slots.now) }) }
     {
-        let nodes = plan_copies(alloc, from, to, nodes)?;
+        let nodes = plan_copies(alloc, from, to, slots)?;
         let mut numbers = Vec::new(alloc);
         numbers.reserve(nodes.len())?;
         let from = from.copy()?;
@@ -102,11 +104,11 @@ impl PlannedCarry {
 }
 
 /// A copy of a node, as it stands once carried.
-fn plan_copy(from: &Place, to: &Place, node: &Node) -> Result<PlannedNode, NoMemory>
+fn plan_copy(from: &Place, to: &Place, node: &KeptNode) -> Result<PlannedNode, NoMemory>
     requires within { is_too_long (carried from.now to.now node.now) ≡ false }
     ensures { IfOk result (λ planned. planned ≡ carried from.now to.now node.now) }
 {
-    let path = node.place.path.moved(&from.path, &to.path)?;
+    let path = node.place().path.moved(&from.path, &to.path)?;
     let parent = Place {
         user: to.user,
         path: path.parent()?,
@@ -115,7 +117,7 @@ fn plan_copy(from: &Place, to: &Place, node: &Node) -> Result<PlannedNode, NoMem
         user: to.user,
         path,
     };
-    PlannedNode::new(place, parent, node.standing.copy()?)
+    PlannedNode::new(place, parent, node.standing().copy()?)
 }
 
 /// Copies of the nodes at and below `from`, as they stand once carried.
@@ -123,15 +125,17 @@ fn plan_copies(
     alloc: Global,
     from: &Place,
     to: &Place,
-    nodes: &[Node],
+    slots: &[Option<KeptNode>],
 ) -> Result<Vec<PlannedNode>, NoMemory>
-    requires within { list_any (makes_long_path from.now to.now) nodes.now ≡ false }
-    ensures { IfOk result (λ planned. planned.items ≡ copies from.now to.now nodes.now) }
+    requires within { list_any (makes_long_path from.now to.now) (somes slots.now) ≡ false }
+    ensures { IfOk result (λ planned. planned.items ≡ copies from.now to.now (somes slots.now)) }
 {
     let mut planned = Vec::new(alloc);
-    for node in nodes {
-        if is_at_or_above(from, &node.place) {
-            planned.push(plan_copy(from, to, node)?)?;
+    for slot in slots {
+        if let Some(kept) = slot {
+            if is_at_or_above(from, kept.place()) {
+                planned.push(plan_copy(from, to, kept)?)?;
+            }
         }
     }
     Ok(planned)

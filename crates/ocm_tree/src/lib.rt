@@ -1,13 +1,17 @@
 //! What stands on a server: the files and collections of all users, found by their places.
 //!
-//! A [`Tree`] holds a node for each place at which something stands, and hash indexes beside them, so
-//! that to look up and to put take no time that grows with the number of nodes; to remove, to list, to
-//! copy and to move walk over all nodes. What wants memory is planned first, as a [`PlannedNode`] or a
-//! [`PlannedCarry`], and room is taken for it; the change itself wants none.
+//! A [`Tree`] holds a node for each place at which something stands, in slots that keep their numbers
+//! while other nodes go, and hash indexes beside them, so that to look up, to put, and to remove a file or
+//! an empty collection take no time that grows with the number of nodes. A listing passes over one number
+//! for each slot, a tag of the place in which its node lies, and looks at the nodes with the tag of the
+//! collection; to remove a collection that is not empty, to copy and to move walk over all slots. What
+//! wants memory is planned first, as a [`PlannedNode`] or a [`PlannedCarry`], and room is taken for it;
+//! the change itself wants none.
 //!
-//! For each node it keeps the number of the kept entry that put what stands there, copied along by
-//! copies and moves, and the nodes in the order of these numbers: [`Tree::standing_by`] finds what an
-//! entry put without a walk over all nodes.
+//! For each slot it keeps the number of the kept entry that put what stands there, copied along by
+//! copies and moves, and the slots in the order of these numbers: [`Tree::standing_by`] finds what an
+//! entry put without a walk over all nodes. An empty slot keeps its number and its tag until the empty
+//! slots are let go, where room is taken while they are more than half of all.
 #![tactic(auto)]
 
 mod amounts;
@@ -16,6 +20,7 @@ mod changes;
 mod entry_numbers;
 mod firsts;
 mod indexes;
+mod kept;
 mod limits;
 mod listing;
 mod moving;
@@ -24,6 +29,7 @@ mod numbers;
 mod orders;
 mod places;
 mod plans;
+mod tags;
 mod trees;
 
 pub use carries::PlannedCarry;

@@ -1,8 +1,8 @@
-ghost use Rattle.std.specs.Prelude.{◌≡◌, ◌≤◌, option_copied};
-ghost use Rattle.ocm_rules.specs.Files.{size_of, total_size};
-ghost use Rattle.ocm_tree.specs.Tables.{size_at, growth, present, first_passed};
+ghost use Rattle.std.specs.Prelude.{◌≡◌, option_copied};
+ghost use Rattle.ocm_rules.specs.Files.{size_of};
+ghost use Rattle.ocm_tree.specs.Tables.{size_at, growth, first_passed};
 
-use ocm_entry::{Node, Standing};
+use ocm_entry::Standing;
 use ocm_types::Which;
 
 /// The most bytes that a file may have.
@@ -27,18 +27,6 @@ pub fn size_of(standing: &Standing) -> u64
     }
 }
 
-/// The bytes of all files.
-pub fn total_size(nodes: &[Node]) -> u64
-    requires { total_size nodes.now ≤ 268435456 }
-    ensures { result ≡ total_size nodes.now }
-{
-    let mut total = 0;
-    for node in nodes {
-        total += size_of(&node.standing);
-    }
-    total
-}
-
 /// The bytes of what stands at a place.
 pub fn size_at(standing: Option<&Standing>) -> u64
     ensures { result ≡ size_at (option_copied standing.entry) }
@@ -56,16 +44,6 @@ pub fn growth(standing: Option<&Standing>) -> u32
     match standing {
         Some(_) => 0,
         None => 1,
-    }
-}
-
-/// How many nodes are gone once nothing stands where this stood.
-pub fn present(standing: Option<&Standing>) -> u32
-    ensures { result ≡ present (option_copied standing.entry) }
-{
-    match standing {
-        Some(_) => 1,
-        None => 0,
     }
 }
 

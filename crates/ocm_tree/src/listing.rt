@@ -1,12 +1,16 @@
-ghost use Rattle.std.specs.Prelude.{◌≡◌, ◌≤◌, length, map, filter, true, IfOk, OnOk};
+ghost use Rattle.std.specs.Prelude.{◌≡◌, ◌≤◌, ◌++◌, ◌∷◌, [], length, map, filter, true, false, IfOk, OnOk};
 ghost use Rattle.ocm_path.specs.Paths.{path_text};
-ghost use Rattle.ocm_entry.specs.declared.rows.Node.{Node};
 ghost use Rattle.ocm_rules.specs.Files.{name_at, same_place, parent_of, children};
 ghost use Rattle.ocm_rules.specs.Answers.{item_size};
 ghost use Rattle.ocm_tree.specs.declared.listing.Child.{Child};
-ghost use Rattle.ocm_tree.specs.Listing.{child_of, in_order_of_names};
+ghost use Rattle.ocm_tree.specs.Tables.{somes};
+ghost use Rattle.ocm_tree.specs.Standings.{numbers_in};
+ghost use Rattle.ocm_tree.specs.Tags.{parent_tag};
+ghost use Rattle.ocm_tree.specs.Listing.{child_of, in_order_of_names, lies_in, listed};
 
+use crate::kept::KeptNode;
 use crate::places::is_parent;
+use crate::tags::tag_of;
 use ocm_base::{List, NoMemory, Text};
 use ocm_entry::{DavItem, Node, Place, Standing};
 use ocm_path::Path;
@@ -64,21 +68,79 @@ fn sort_by_name(children: &mut Vec<Child>) -> Result<(), NoMemory>
     Ok(())
 }
 
-/// What lies in a collection, in the order of the nodes.
+/// Adds what a node in a collection is told as.
+fn push_node(
+    found: &mut Vec<Child>,
+    node: &Node,
+    place: &Place,
+    path: &Path,
+) -> Result<(), NoMemory>
+    requires lies { same_place (parent_of node.now.place) place.now ≡ true }
+    requires short { length (path_text path.now) ≤ 1024 }
+    ensures { OnOk result (found.new.items ≡ found.old.items ++ child_of place.now path.now node.now ∷ []) }
+{
+    let alloc = *found.allocator();
+    let child = child_of(alloc, node, place, path)?;
+    found.push(child)?;
+    Ok(())
+}
+
+/// Adds what the node of a slot is told as, where it lies in a collection.
+fn push_child(
+    found: &mut Vec<Child>,
+    slot: &Option<KeptNode>,
+    place: &Place,
+    path: &Path,
+) -> Result<(), NoMemory>
+    requires short { length (path_text path.now) ≤ 1024 }
+    ensures { OnOk result (found.new.items ≡ found.old.items ++ listed (child_of place.now path.now) (lies_in place.now) slot.now) }
+{
+    if let Some(kept) = slot {
+        if is_parent(place, kept.place()) {
+            return push_node(found, kept.node(), place, path);
+        }
+    }
+    Ok(())
+}
+
+/// Adds what the node of a slot is told as, where it lies in a collection, as it may where a test
+/// passes.
+fn push_where(
+    test: bool,
+    found: &mut Vec<Child>,
+    slot: &Option<KeptNode>,
+    place: &Place,
+    path: &Path,
+) -> Result<(), NoMemory>
+    requires short { length (path_text path.now) ≤ 1024 }
+    requires apart { test ≡ false → listed (child_of place.now path.now) (lies_in place.now) slot.now ≡ [] }
+    ensures { OnOk result (found.new.items ≡ found.old.items ++ listed (child_of place.now path.now) (lies_in place.now) slot.now) }
+{
+    if test {
+        push_child(found, slot, place, path)
+    } else {
+        Ok(())
+    }
+}
+
+/// What lies in a collection, in the order of the nodes. Only the nodes are looked at that have the
+/// tag of the collection.
 fn unsorted_children(
     alloc: Global,
-    nodes: &[Node],
+    slots: &[Option<KeptNode>],
+    tags: &[u64],
     place: &Place,
     path: &Path,
 ) -> Result<Vec<Child>, NoMemory>
     requires short { length (path_text path.now) ≤ 1024 }
-    ensures { IfOk result (λ found. found.items ≡ map (child_of place.now path.now) (filter (λ (n : Node). same_place (parent_of n.place) place.now) nodes.now)) }
+    requires same { length slots.now ≡ length tags.now }
+    requires tagged { numbers_in slots.now tags.now ≡ map parent_tag (somes slots.now) }
+    ensures { IfOk result (λ found. found.items ≡ map (child_of place.now path.now) (filter (lies_in place.now) (somes slots.now))) }
 {
+    let wanted = tag_of(place);
     let mut found = Vec::new(alloc);
-    for node in nodes {
-        if is_parent(place, &node.place) {
-            found.push(child_of(alloc, node, place, path)?)?;
-        }
+    for (index, tag) in tags.iter().enumerate() {
+        push_where(*tag == wanted, &mut found, &slots[index], place, path)?;
     }
     Ok(found)
 }
@@ -87,14 +149,17 @@ fn unsorted_children(
 /// collection.
 pub fn children_of(
     alloc: Global,
-    nodes: &[Node],
+    slots: &[Option<KeptNode>],
+    tags: &[u64],
     place: &Place,
     path: &Path,
 ) -> Result<Vec<Child>, NoMemory>
     requires short { length (path_text path.now) ≤ 1024 }
-    ensures { IfOk result (λ found. found.items ≡ map (child_of place.now path.now) (children nodes.now place.now)) }
+    requires same { length slots.now ≡ length tags.now }
+    requires tagged { numbers_in slots.now tags.now ≡ map parent_tag (somes slots.now) }
+    ensures { IfOk result (λ found. found.items ≡ map (child_of place.now path.now) (children (somes slots.now) place.now)) }
 {
-    let mut found = unsorted_children(alloc, nodes, place, path)?;
+    let mut found = unsorted_children(alloc, slots, tags, place, path)?;
     sort_by_name(&mut found)?;
     Ok(found)
 }

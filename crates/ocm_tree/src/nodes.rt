@@ -1,108 +1,130 @@
-ghost use Rattle.std.specs.Prelude.{◌≡◌, ◌<◌, ◌≤◌, ◌+◌, ◌∷◌, ◌++◌, [], length, Some, None, filter, not, IfSome, OnOk, option_copied};
+ghost use Rattle.std.specs.Prelude.{◌≡◌, ◌<◌, ◌≤◌, ◌+◌, ◌∷◌, ◌++◌, [], length, map, true, Some, None, is_some, filter, OnOk, option_copied, slice_set};
 ghost use Rattle.ocm_entry.specs.declared.rows.Node.{Node};
-ghost use Rattle.ocm_rules.specs.Files.{size_of, parent_of, is_at_or_above, total_size, child_count, with_node, limit_of};
+ghost use Rattle.ocm_rules.specs.Files.{size_of, parent_of, total_size, child_count, limit_of};
 ghost use Rattle.ocm_rules.specs.State.{node_at, EachOnce};
-ghost use Rattle.ocm_tree.specs.Tables.{index_of};
+ghost use Rattle.ocm_tree.specs.Tables.{somes, slot_of, cleared, IsLeaf};
 
-use crate::indexes::{counted, drop_counts, drop_nodes, drop_places, number_places};
-use crate::limits::{present, size_of, total_size};
+use crate::indexes::{
+    are_both, counted, drop_count, drop_empty, number_places, put_in, remove_below, standing_in,
+    take_out,
+};
+use crate::kept::KeptNode;
+use crate::limits::{size_at, size_of};
 use crate::plans::PlannedNode;
 use ocm_base::NoMemory;
-use ocm_entry::{Node, Place, Standing};
+use ocm_entry::{Place, Standing};
 use std::alloc::Global;
 use std::collections::HashMap;
 use std::marker::Model;
 
-/// The nodes, each place once, with indexes beside them. Contracts see the list of the nodes, and how
-/// many more nodes the table takes without memory.
+/// The nodes, each place once, in slots that keep their numbers while other nodes go, with indexes
+/// beside them. Contracts see the slots, and how many more nodes the table takes without memory.
 #[derive(Drop)]
 pub struct NodeTable {
     /// What stands at each user's root.
     root: Standing,
-    nodes: Vec<Node>,
-    /// Which node stands at a place.
-    places: HashMap<Place, u32>,
+    /// The nodes, in the order in which they came, between empty slots where nodes were.
+    slots: Vec<Option<KeptNode>>,
+    /// In which slot the node at a place is.
+    places: HashMap<Place, usize>,
     /// How many nodes lie in a collection.
     children: HashMap<Place, u32>,
+    /// How many nodes there are.
+    count: usize,
     /// The bytes of all files.
     total: u64,
+    /// Whether each node is known to lie in a user's root or where something stands.
+    rooted: bool,
 }
 
 impl Model for NodeTable {
     ghost use Rattle.std.specs.Prelude.{◌-◌, min, vec_len, vec_capacity};
     ghost use Rattle.std.specs.HashMap.{spare};
-    ghost use Rattle.ocm_tree.specs.Tables.{NodeLists, IsTable};
+    ghost use Rattle.ocm_tree.specs.Tables.{SlotLists, IsTable};
 
-    ghost Value = { NodeLists };
+    ghost Value = { SlotLists };
 
-    ghost view = { λ t. record { nodes = t.nodes.items; room = min (vec_capacity t.nodes - vec_len t.nodes) (min (spare t.places) (spare t.children)) } };
+    ghost view = { λ t. record { slots = t.slots.items; room = min (vec_capacity t.slots - vec_len t.slots) (min (spare t.places) (spare t.children)) } };
 
-    ghost invariant = { λ t. IsTable t.root t.nodes.items t.places t.children t.total };
+    ghost invariant = { λ t. IsTable t.root t.slots.items t.places t.children t.count t.total t.rooted };
 }
 
 impl NodeTable {
     ghost use Rattle.ocm_entry.specs.declared.rows.Standing.TheVariants.{Collection};
+    ghost use Rattle.ocm_rules.specs.Files.{with_roots};
 
     /// A table without nodes.
     pub fn new(alloc: Global) -> NodeTable
-        ensures { result.nodes ≡ [] }
+        ensures { result.slots ≡ [] }
     {
         NodeTable {
             root: Standing::Collection,
-            nodes: Vec::new(alloc),
+            slots: Vec::new(alloc),
             places: HashMap::new(alloc),
             children: HashMap::new(alloc),
+            count: 0,
             total: 0,
+            rooted: true,
         }
     }
 
     /// The allocator of the table.
     pub fn allocator(&self) -> Global {
-        *self.nodes.allocator()
+        *self.slots.allocator()
     }
 
-    /// What stands at each user's root.
-    pub fn root(&self) -> &Standing
-        ensures { result.now ≡ Collection }
-    {
-        &self.root
-    }
-
-    /// The nodes.
-    pub fn nodes(&self) -> &[Node]
-        ensures nodes { result.now ≡ self.now.nodes }
-        ensures once { EachOnce self.now.nodes }
-        ensures few { length self.now.nodes ≤ 65536 }
-        ensures light { total_size self.now.nodes ≤ 268435456 }
+    /// The slots.
+    pub fn slots(&self) -> &[Option<KeptNode>]
+        ensures slots { result.now ≡ self.now.slots }
+        ensures once { EachOnce (somes self.now.slots) }
+        ensures few { length (somes self.now.slots) ≤ 65536 }
+        ensures light { total_size (somes self.now.slots) ≤ 268435456 }
     {
         let _root = &self.root;
-        &self.nodes
+        &self.slots
     }
 
-    /// Where among the nodes the one at a place is.
-    pub fn index_of(&self, place: &Place) -> Option<usize>
-        ensures index { result ≡ index_of self.now.nodes place.now }
-        ensures within { IfSome result (λ i. i < length self.now.nodes) }
+    /// In which slot the node at a place is.
+    pub fn slot_of(&self, place: &Place) -> Option<usize>
+        ensures { result ≡ slot_of self.now.slots place.now }
     {
         match self.places.get(place) {
-            Some(index) => Some(*index as usize),
+            Some(index) => Some(*index),
             None => None,
         }
     }
 
     /// What stands at a place below the users' roots.
     pub fn node_at(&self, place: &Place) -> Option<&Standing>
-        ensures { option_copied result ≡ node_at self.now.nodes place.now }
+        ensures { option_copied result ≡ node_at (somes self.now.slots) place.now }
     {
-        match self.index_of(place) {
-            Some(index) => Some(&self.nodes[index].standing),
+        match self.places.get(place) {
+            Some(index) => standing_in(&self.slots, *index),
             None => None,
         }
     }
 
+    /// What stands at a place. At each user's root a collection stands.
+    pub fn standing_at(&self, place: &Place) -> Option<&Standing>
+        ensures { option_copied result ≡ with_roots (node_at (somes self.now.slots)) place.now }
+    {
+        if place.path.is_root() {
+            Some(&self.root)
+        } else {
+            self.node_at(place)
+        }
+    }
+
+    /// Whether a place is a user's root, or something stands there.
+    fn has_root_or_node(&self, place: &Place) -> bool
+        ensures { result ≡ is_some (with_roots (node_at (somes self.now.slots)) place.now) }
+    {
+        self.standing_at(place).is_some()
+    }
+
     /// How many nodes lie in the collection at a place.
     pub fn child_count(&self, place: &Place) -> u32
-        ensures count { result ≡ child_count self.now.nodes place.now }
+        ensures count { result ≡ child_count (somes self.now.slots) place.now }
         ensures within { result ≤ 65536 }
     {
         counted(self.children.get(place))
@@ -110,7 +132,7 @@ impl NodeTable {
 
     /// The bytes of all files.
     pub fn total_size(&self) -> u64
-        ensures total { result ≡ total_size self.now.nodes }
+        ensures total { result ≡ total_size (somes self.now.slots) }
         ensures within { result ≤ 268435456 }
     {
         self.total
@@ -118,43 +140,93 @@ impl NodeTable {
 
     /// How many nodes there are.
     pub fn len(&self) -> usize
-        ensures len { result ≡ length self.now.nodes }
+        ensures len { result ≡ length (somes self.now.slots) }
         ensures within { result ≤ 65536 }
     {
-        self.nodes.len()
+        self.count
+    }
+
+    /// Whether more than half of the slots are empty.
+    pub fn is_sparse(&self) -> bool {
+        self.slots.len() / 2 > self.count
+    }
+
+    /// Lets the empty slots go. It takes no memory.
+    pub fn close_up(&mut self)
+        ensures slots { self.new.slots ≡ filter is_some self.old.slots }
+        ensures room { self.old.room ≤ self.new.room }
+    {
+        drop_empty(&mut self.slots);
+        number_places(&self.slots, &mut self.places);
     }
 
     /// Room for so many more nodes.
     pub fn reserve(&mut self, more: usize) -> Result<(), NoMemory>
-        ensures nodes { self.new.nodes ≡ self.old.nodes }
+        ensures slots { self.new.slots ≡ self.old.slots }
         ensures ok { OnOk result (more ≤ self.new.room) }
     {
-        self.nodes.reserve(more)?;
+        self.slots.reserve(more)?;
         self.places.reserve(more)?;
         self.children.reserve(more)?;
         Ok(())
     }
 
-    /// Lets nothing stand any more at a place and below it. It takes no memory.
+    /// Lets nothing stand any more at a place and below it, and leaves the slots empty. It takes no
+    /// memory.
     pub fn remove(&mut self, place: &Place)
-        ensures nodes { self.new.nodes ≡ filter (λ (n : Node). not (is_at_or_above place.now n.place)) self.old.nodes }
+        ensures slots { self.new.slots ≡ map (cleared place.now) self.old.slots }
         ensures room { self.old.room ≤ self.new.room }
     {
-        let gone = present(self.node_at(place));
-        drop_counts(&mut self.children, place, gone);
-        drop_places(&mut self.places, place);
-        drop_nodes(&mut self.nodes, place);
-        number_places(&self.nodes, &mut self.places);
-        self.total = total_size(&self.nodes);
+        if self.is_leaf(place) {
+            self.remove_leaf(place);
+        } else {
+            self.remove_all(place);
+        }
+    }
+
+    /// Whether nothing is known to stand below a place.
+    fn is_leaf(&self, place: &Place) -> bool
+        ensures { result ≡ true → IsLeaf (somes self.now.slots) place.now }
+    {
+        self.rooted && counted(self.children.get(place)) == 0
+    }
+
+    /// Lets nothing stand any more at a place below which nothing stands.
+    fn remove_leaf(&mut self, place: &Place)
+        requires leaf { IsLeaf (somes self.old.slots) place.now }
+        ensures slots { self.new.slots ≡ map (cleared place.now) self.old.slots }
+        ensures room { self.old.room ≤ self.new.room }
+    {
+        if let Some(index) = self.places.remove(place) {
+            let kept = take_out(&mut self.slots, index);
+            self.count -= 1;
+            self.total -= size_of(kept.standing());
+            drop_count(&mut self.children, kept.place(), kept.parent());
+        }
+    }
+
+    /// Lets nothing stand any more at a place and below it, by a walk over all slots.
+    fn remove_all(&mut self, place: &Place)
+        ensures slots { self.new.slots ≡ map (cleared place.now) self.old.slots }
+        ensures room { self.old.room ≤ self.new.room }
+    {
+        remove_below(
+            &mut self.slots,
+            &mut self.places,
+            &mut self.children,
+            &mut self.count,
+            &mut self.total,
+            place,
+        );
     }
 
     /// Lets nodes stand where nothing stands. It takes no memory.
     pub fn add_all(&mut self, nodes: Vec<PlannedNode>)
         requires room { length nodes.items ≤ self.old.room }
-        requires once { EachOnce (self.old.nodes ++ nodes.items) }
-        requires few { length (self.old.nodes ++ nodes.items) ≤ 65536 }
-        requires light { total_size (self.old.nodes ++ nodes.items) ≤ 268435456 }
-        ensures nodes { self.new.nodes ≡ self.old.nodes ++ nodes.items }
+        requires once { EachOnce (somes self.old.slots ++ nodes.items) }
+        requires few { length (somes self.old.slots ++ nodes.items) ≤ 65536 }
+        requires light { total_size (somes self.old.slots ++ nodes.items) ≤ 268435456 }
+        ensures slots { self.new.slots ≡ self.old.slots ++ map (λ (n : Node). Some n) nodes.items }
     {
         for planned in nodes {
             self.add_planned(planned);
@@ -163,47 +235,50 @@ impl NodeTable {
 
     fn add_planned(&mut self, planned: PlannedNode)
         requires room { 0 < self.old.room }
-        requires absent { node_at self.old.nodes planned.place ≡ None }
-        requires few { length self.old.nodes < 65536 }
-        requires light { total_size self.old.nodes + size_of planned.standing ≤ 268435456 }
-        ensures nodes { self.new.nodes ≡ self.old.nodes ++ planned ∷ [] }
+        requires absent { node_at (somes self.old.slots) planned.place ≡ None }
+        requires few { length (somes self.old.slots) < 65536 }
+        requires light { total_size (somes self.old.slots) + size_of planned.standing ≤ 268435456 }
+        ensures slots { self.new.slots ≡ self.old.slots ++ Some planned ∷ [] }
         ensures room { self.old.room ≤ self.new.room + 1 }
     {
         let (node, key, parent) = planned.into_parts();
         self.add(node, key, parent);
     }
 
-    /// Lets a node stand in the place of the one with this index, which stands at the same place.
-    pub fn replace(&mut self, index: usize, node: Node)
-        requires found { index_of self.old.nodes node.place ≡ Some index }
-        requires within { limit_of self.old.nodes node ≡ None }
-        ensures nodes { self.new.nodes ≡ with_node self.old.nodes node }
+    /// Lets a node stand in the slot of the one that stands at its place. It takes no memory.
+    pub fn replace(&mut self, index: usize, node: KeptNode)
+        requires found { slot_of self.old.slots node.place ≡ Some index }
+        requires within { limit_of (somes self.old.slots) node ≡ None }
+        ensures slots { self.new.slots ≡ slice_set self.old.slots index (Some node) }
         ensures room { self.old.room ≤ self.new.room + 1 }
     {
-        let older = size_of(&self.nodes[index].standing);
-        self.total = self.total - older + size_of(&node.standing);
-        self.nodes[index] = node;
+        let older = size_at(self.node_at(node.place()));
+        self.total = self.total - older + size_of(node.standing());
+        put_in(&mut self.slots, index, node);
     }
 
     /// Lets a node stand where nothing stands, given with its place once more and the place that it
     /// lies in. It takes no memory.
-    pub fn add(&mut self, node: Node, key: Place, parent: Place)
+    pub fn add(&mut self, node: KeptNode, key: Place, parent: Place)
         requires room { 0 < self.old.room }
         requires key { key ≡ node.place }
         requires parent { parent ≡ parent_of node.place }
-        requires absent { index_of self.old.nodes node.place ≡ None }
-        requires few { length self.old.nodes < 65536 }
-        requires light { total_size self.old.nodes + size_of node.standing ≤ 268435456 }
-        ensures nodes { self.new.nodes ≡ self.old.nodes ++ node ∷ [] }
+        requires absent { node_at (somes self.old.slots) node.place ≡ None }
+        requires few { length (somes self.old.slots) < 65536 }
+        requires light { total_size (somes self.old.slots) + size_of node.standing ≤ 268435456 }
+        ensures slots { self.new.slots ≡ self.old.slots ++ Some node ∷ [] }
         ensures room { self.old.room ≤ self.new.room + 1 }
     {
-        let index = self.nodes.len() as u32;
+        let index = self.slots.len();
         let count = counted(self.children.get(&parent));
-        self.total += size_of(&node.standing);
+        let lies = self.has_root_or_node(&parent);
+        self.rooted = are_both(self.rooted, lies);
+        self.count += 1;
+        self.total += size_of(node.standing());
         let placed: Result<_, _> = self.places.insert(key, index);
         let _before = placed.unwrap();
         let counted: Result<_, _> = self.children.insert(parent, count + 1);
         let _count = counted.unwrap();
-        self.nodes.push(node).unwrap();
+        self.slots.push(Some(node)).unwrap();
     }
 }

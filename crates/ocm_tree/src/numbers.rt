@@ -1,20 +1,22 @@
-ghost use Rattle.std.specs.Prelude.{◌≡◌, ◌≤◌, [], not, filter, length, vec_capacity};
+ghost use Rattle.std.specs.Prelude.{◌≡◌, ◌≤◌, [], length, is_some, vec_capacity};
 ghost use Rattle.ocm_entry.specs.declared.rows.Node.{Node};
 ghost use Rattle.ocm_rules.specs.Files.{is_at_or_above};
 ghost use Rattle.ocm_tree.specs.Orders.{numbers_where};
+ghost use Rattle.ocm_tree.specs.Tables.{slot_passes};
 
+use crate::kept::KeptNode;
 use crate::places::is_at_or_above;
-use ocm_entry::{Node, Place};
+use ocm_entry::Place;
 
-/// Keeps the numbers of the nodes that lie neither at a place nor below it.
-pub fn drop_numbers(numbers: &mut Vec<u64>, nodes: &[Node], there: &Place)
-    requires { length nodes.now ≡ length numbers.old.items }
-    ensures numbers { numbers.new.items ≡ numbers_where (λ (n : Node). not (is_at_or_above there.now n.place)) nodes.now numbers.old.items }
+/// Keeps the numbers of the slots that are not empty.
+pub fn drop_numbers(numbers: &mut Vec<u64>, slots: &[Option<KeptNode>])
+    requires { length slots.now ≡ length numbers.old.items }
+    ensures numbers { numbers.new.items ≡ numbers_where is_some slots.now numbers.old.items }
     ensures capacity { vec_capacity numbers.new ≡ vec_capacity numbers.old }
 {
     let mut kept = 0;
-    for (index, node) in nodes.iter().enumerate() {
-        if !is_at_or_above(there, &node.place) {
+    for (index, slot) in slots.iter().enumerate() {
+        if slot.is_some() {
             numbers[kept] = numbers[index];
             kept += 1;
         }
@@ -22,15 +24,25 @@ pub fn drop_numbers(numbers: &mut Vec<u64>, nodes: &[Node], there: &Place)
     numbers.truncate(kept);
 }
 
-/// Writes down the numbers of the nodes at and below a place. It takes no memory.
-pub fn copy_numbers(kept: &mut Vec<u64>, numbers: &[u64], nodes: &[Node], there: &Place)
-    requires same { length nodes.now ≡ length numbers.now }
-    requires empty { kept.old.items ≡ [] }
-    requires room { length (filter (λ (n : Node). is_at_or_above there.now n.place) nodes.now) ≤ vec_capacity kept.old }
-    ensures { kept.new.items ≡ numbers_where (λ (n : Node). is_at_or_above there.now n.place) nodes.now numbers.now }
+/// Whether the node of a slot lies at a place or below it.
+fn lies_below(there: &Place, slot: &Option<KeptNode>) -> bool
+    ensures { result ≡ slot_passes (λ (n : Node). is_at_or_above there.now n.place) slot.now }
 {
-    for (index, node) in nodes.iter().enumerate() {
-        if is_at_or_above(there, &node.place) {
+    match slot {
+        Some(kept) => is_at_or_above(there, kept.place()),
+        None => false,
+    }
+}
+
+/// Writes down the numbers of the nodes at and below a place. It takes no memory.
+pub fn copy_numbers(kept: &mut Vec<u64>, numbers: &[u64], slots: &[Option<KeptNode>], there: &Place)
+    requires same { length slots.now ≡ length numbers.now }
+    requires empty { kept.old.items ≡ [] }
+    requires room { length (numbers_where (slot_passes (λ (n : Node). is_at_or_above there.now n.place)) slots.now numbers.now) ≤ vec_capacity kept.old }
+    ensures { kept.new.items ≡ numbers_where (slot_passes (λ (n : Node). is_at_or_above there.now n.place)) slots.now numbers.now }
+{
+    for (index, slot) in slots.iter().enumerate() {
+        if lies_below(there, slot) {
             kept.push(numbers[index]).unwrap();
         }
     }

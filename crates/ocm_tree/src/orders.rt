@@ -1,6 +1,6 @@
-ghost use Rattle.std.specs.Prelude.{◌≡◌, ◌≤◌, ◌<◌, true, drop, take, filter, length, position, slice_index_or, nat_le, vec_capacity};
+ghost use Rattle.std.specs.Prelude.{◌≡◌, ◌≤◌, ◌<◌, ◌+◌, true, drop, take, filter, length, position, slice_index_or, nat_le, ℕ, ◌∷◌, vec_len, vec_capacity};
 ghost use Rattle.std.specs.List.{list_any};
-ghost use Rattle.std.specs.List.Sorted.{IsNonDecreasingBy};
+ghost use Rattle.std.specs.List.Sorted.{IsNonDecreasingBy, IsPermutation};
 ghost use Rattle.ocm_tree.specs.declared.orders.NumberedNode.{NumberedNode};
 ghost use Rattle.ocm_tree.specs.Orders.{from_number, is_node, numbered, IsInOrder};
 
@@ -8,7 +8,7 @@ ghost use Rattle.ocm_tree.specs.Orders.{from_number, is_node, numbered, IsInOrde
 #[derive(Clone, Copy, Debug, PartialEq, Eq)]
 pub struct NumberedNode {
     pub number: u64,
-    pub index: u32,
+    pub index: usize,
 }
 
 /// How many nodes in the order of their numbers have earlier ones than this.
@@ -39,7 +39,7 @@ pub fn nodes_of(order: &[NumberedNode], number: u64) -> &[NumberedNode]
 }
 
 /// Where the first node with this number and this index is.
-fn position_of(nodes: &[NumberedNode], number: u64, index: u32) -> Option<usize>
+fn position_of(nodes: &[NumberedNode], number: u64, index: usize) -> Option<usize>
     ensures { result ≡ position (is_node number index) nodes.now }
 {
     nodes
@@ -48,7 +48,7 @@ fn position_of(nodes: &[NumberedNode], number: u64, index: u32) -> Option<usize>
 }
 
 /// Where the node with this number and this index is, among nodes in the order of their numbers.
-pub fn place_of(order: &[NumberedNode], number: u64, index: u32) -> usize
+pub fn place_of(order: &[NumberedNode], number: u64, index: usize) -> usize
     requires sorted { IsNonDecreasingBy (λ (node : NumberedNode). node.number) order.now }
     requires there { list_any (is_node number index) order.now ≡ true }
     ensures within { result < length order.now }
@@ -59,10 +59,33 @@ pub fn place_of(order: &[NumberedNode], number: u64, index: u32) -> usize
     start + later
 }
 
+/// How many nodes in the order of their numbers come before a further one with this number: those
+/// without a later number.
+fn place_for(order: &[NumberedNode], number: u64) -> usize
+    requires { IsNonDecreasingBy (λ (node : NumberedNode). node.number) order.now }
+    ensures within { result ≤ length order.now }
+    ensures before { (k : ℕ) (d : NumberedNode) → k < result → (slice_index_or order.now k d).number ≤ number }
+    ensures behind { (k : ℕ) (d : NumberedNode) → result ≤ k → k < length order.now → number ≤ (slice_index_or order.now k d).number }
+{
+    order.partition_point(|node| node.number <= number)
+}
+
+/// Puts one more node at its place in the order of the numbers. It takes no memory.
+pub fn put_in_place(order: &mut Vec<NumberedNode>, node: NumberedNode)
+    requires sorted { IsNonDecreasingBy (λ (node : NumberedNode). node.number) order.old.items }
+    requires room { vec_len order.old < vec_capacity order.old }
+    ensures nodes { IsPermutation (node ∷ order.old.items) order.new.items }
+    ensures sorted { IsNonDecreasingBy (λ (node : NumberedNode). node.number) order.new.items }
+    ensures len { vec_len order.new ≡ vec_len order.old + 1 }
+    ensures capacity { vec_capacity order.old ≤ vec_capacity order.new }
+{
+    let place = place_for(order, node.number);
+    order.insert(place, node).unwrap();
+}
+
 /// Lists nodes of these numbers, in the order of the nodes. It takes no memory.
 fn list_all(numbers: &[u64], order: &mut Vec<NumberedNode>)
-    requires room { length numbers.now ≤ vec_capacity order.old }
-    requires few { length numbers.now ≤ 65536 }
+    requires { length numbers.now ≤ vec_capacity order.old }
     ensures nodes { order.new.items ≡ numbered 0 numbers.now }
     ensures capacity { vec_capacity order.old ≤ vec_capacity order.new }
 {
@@ -70,7 +93,7 @@ fn list_all(numbers: &[u64], order: &mut Vec<NumberedNode>)
     for (index, number) in numbers.iter().enumerate() {
         let node = NumberedNode {
             number: *number,
-            index: index as u32,
+            index,
         };
         order.push(node).unwrap();
     }
@@ -78,8 +101,7 @@ fn list_all(numbers: &[u64], order: &mut Vec<NumberedNode>)
 
 /// Puts nodes of these numbers in the order of their numbers. It takes no memory.
 pub fn put_in_order(numbers: &[u64], order: &mut Vec<NumberedNode>)
-    requires room { length numbers.now ≤ vec_capacity order.old }
-    requires few { length numbers.now ≤ 65536 }
+    requires { length numbers.now ≤ vec_capacity order.old }
     ensures order { IsInOrder numbers.now order.new.items }
     ensures capacity { vec_capacity order.old ≤ vec_capacity order.new }
 {

@@ -1,15 +1,16 @@
 ghost use Rattle.std.specs.Prelude.{◌≡◌, IfOk};
 ghost use Rattle.ocm_rules.specs.Files.{parent_of};
 
+use crate::kept::KeptNode;
 use ocm_base::NoMemory;
-use ocm_entry::{Node, Place, Standing};
+use ocm_entry::{Place, Standing};
 use std::marker::Model;
 
 /// A node that is about to stand, with all that a tree needs to take it without memory. Contracts
 /// see the node.
 #[derive(Drop)]
 pub struct PlannedNode {
-    node: Node,
+    kept: KeptNode,
     key: Place,
     parent: Place,
 }
@@ -21,9 +22,9 @@ impl Model for PlannedNode {
 
     ghost Value = { Node };
 
-    ghost view = { λ p. p.node };
+    ghost view = { λ p. p.kept };
 
-    ghost invariant = { λ p. (p.key ≡ p.node.place) × (p.parent ≡ parent_of p.node.place) };
+    ghost invariant = { λ p. (p.key ≡ p.kept.place) × (p.parent ≡ parent_of p.kept.place) };
 }
 
 impl PlannedNode {
@@ -34,30 +35,41 @@ impl PlannedNode {
         ensures { IfOk result (λ planned. planned ≡ record { place = place; standing = standing }) }
     {
         let key = place.copy()?;
-        let node = Node { place, standing };
-        Ok(PlannedNode { node, key, parent })
+        let above = parent.copy()?;
+        Ok(PlannedNode {
+            kept: KeptNode::new(place, above, standing),
+            key,
+            parent,
+        })
     }
 
-    /// Where it is about to stand.
+    /// Where the node is to stand.
     pub fn place(&self) -> &Place
         ensures { result.now ≡ self.now.place }
     {
-        &self.node.place
+        self.kept.place()
     }
 
-    /// What is about to stand there.
+    /// What is to stand there.
     pub fn standing(&self) -> &Standing
         ensures { result.now ≡ self.now.standing }
     {
-        &self.node.standing
+        self.kept.standing()
+    }
+
+    /// The place that the node is to lie in.
+    pub(crate) fn parent(&self) -> &Place
+        ensures { result.now ≡ parent_of self.now.place }
+    {
+        &self.parent
     }
 
     /// The node, its place once more, and the place that it lies in.
-    pub(crate) fn into_parts(self) -> (Node, Place, Place)
+    pub(crate) fn into_parts(self) -> (KeptNode, Place, Place)
         ensures node { result.0 ≡ self }
         ensures key { result.1 ≡ self.place }
         ensures parent { result.2 ≡ parent_of self.place }
     {
-        (self.node, self.key, self.parent)
+        (self.kept, self.key, self.parent)
     }
 }

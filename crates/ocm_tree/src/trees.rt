@@ -2,14 +2,14 @@ ghost use Rattle.std.specs.Prelude.{◌≡◌, ◌≢◌, ◌<◌, ◌≤◌, �
 ghost use Rattle.ocm_path.specs.Paths.{path_text};
 ghost use Rattle.ocm_entry.specs.declared.rows.Standing.{Standing};
 ghost use Rattle.ocm_entry.specs.declared.rows.Standing.TheVariants.{Collection, File};
-ghost use Rattle.ocm_rules.specs.Files.{size_of, parent_of, with_node, with_roots, limit_of, nodes_after, Gone, Carried, copies, stays, limit_of_carry};
+ghost use Rattle.ocm_rules.specs.Files.{size_of, parent_of, with_node, with_roots, limit_of, nodes_after, Gone, Carried, copies, stays, path_limit, limit_of_carry};
 ghost use Rattle.ocm_rules.specs.State.{node_at, EachOnce};
 ghost use Rattle.ocm_rules.specs.Answers.{is_collection, items_in};
 ghost use Rattle.ocm_law_origins.specs.Origins.{Origin, body_from, copied, origin_stays, origins_after, with_origin};
 ghost use Rattle.ocm_tree.specs.Carries.{limit_after};
 ghost use Rattle.ocm_tree.specs.Changes.{act_of};
 
-use crate::amounts::{Amount, amount_after, limit_of_paths};
+use crate::amounts::{amounts_after, limit_of_paths};
 use crate::carries::PlannedCarry;
 use crate::changes::{FileChange, Part};
 use crate::entry_numbers::EntryNumbers;
@@ -17,8 +17,9 @@ use crate::firsts::first_standing;
 use crate::limits::{MOST_FILE_BYTES, first_passed, growth, size_at};
 use crate::listing::{children_of, items_of};
 use crate::nodes::NodeTable;
-use crate::numbers::copy_numbers;
+use crate::numbers::{copy_numbers, drop_numbers};
 use crate::plans::PlannedNode;
+use crate::tags::{push_tags, tag_of};
 use ocm_base::{Bytes, List, NoMemory};
 use ocm_entry::{DavItem, Node, Place, Standing};
 use ocm_path::Path;
@@ -32,20 +33,24 @@ use std::marker::Model;
 #[derive(Drop)]
 pub struct Tree {
     table: NodeTable,
-    /// The numbers of the nodes, in the order of the nodes.
+    /// The numbers of the nodes, in the order of their slots.
     numbers: EntryNumbers,
+    /// A tag for each slot, that of the place in which its node lies: nodes with other tags lie
+    /// elsewhere, so that a listing looks at few.
+    tags: Vec<u64>,
 }
 
 impl Model for Tree {
-    ghost use Rattle.std.specs.Prelude.{◌≡◌, length, min};
-    ghost use Rattle.ocm_tree.specs.Standings.{origins_of};
-    ghost use Rattle.ocm_tree.specs.Trees.{TreeLists};
+    ghost use Rattle.std.specs.Prelude.{◌-◌, min, vec_len, vec_capacity};
+    ghost use Rattle.ocm_tree.specs.Standings.{origins_of, numbers_in};
+    ghost use Rattle.ocm_tree.specs.Tables.{somes};
+    ghost use Rattle.ocm_tree.specs.Trees.{TreeLists, AreBeside};
 
     ghost Value = { TreeLists };
 
-    ghost view = { λ t. record { nodes = t.table.nodes; origins = origins_of t.table.nodes t.numbers.numbers; room = min t.table.room t.numbers.room } };
+    ghost view = { λ t. record { nodes = somes t.table.slots; origins = origins_of (somes t.table.slots) (numbers_in t.table.slots t.numbers.numbers); room = min t.table.room (min t.numbers.room (vec_capacity t.tags - vec_len t.tags)) } };
 
-    ghost invariant = { λ t. length t.table.nodes ≡ length t.numbers.numbers };
+    ghost invariant = { λ t. AreBeside t.table.slots t.numbers.numbers t.tags.items };
 }
 
 impl Tree {
@@ -57,6 +62,7 @@ impl Tree {
         Tree {
             table: NodeTable::new(alloc),
             numbers: EntryNumbers::new(alloc),
+            tags: Vec::new(alloc),
         }
     }
 
@@ -64,11 +70,7 @@ impl Tree {
     pub fn standing_at(&self, place: &Place) -> Option<&Standing>
         ensures { option_copied result ≡ with_roots (node_at self.now.nodes) place.now }
     {
-        if place.path.is_root() {
-            Some(self.table.root())
-        } else {
-            self.table.node_at(place)
-        }
+        self.table.standing_at(place)
     }
 
     /// Whether a collection stands at a place. At each user's root one stands.
@@ -125,15 +127,39 @@ impl Tree {
         self.reserve(1)
     }
 
-    /// Room for so many more nodes.
+    /// Room for so many more nodes. Where most slots are empty, they are let go first.
     fn reserve(&mut self, more: usize) -> Result<(), NoMemory>
         ensures nodes { self.new.nodes ≡ self.old.nodes }
         ensures origins { self.new.origins ≡ self.old.origins }
         ensures ok { OnOk result (more ≤ self.new.room) }
     {
+        self.tidy();
         self.table.reserve(more)?;
         self.numbers.reserve(more)?;
+        self.tags.reserve(more)?;
         Ok(())
+    }
+
+    /// Lets the empty slots go where they are most of all. It takes no memory.
+    fn tidy(&mut self)
+        ensures nodes { self.new.nodes ≡ self.old.nodes }
+        ensures origins { self.new.origins ≡ self.old.origins }
+        ensures room { self.old.room ≤ self.new.room }
+    {
+        if self.table.is_sparse() {
+            self.close_up();
+        }
+    }
+
+    /// Lets the empty slots go. It takes no memory.
+    fn close_up(&mut self)
+        ensures nodes { self.new.nodes ≡ self.old.nodes }
+        ensures origins { self.new.origins ≡ self.old.origins }
+        ensures room { self.old.room ≤ self.new.room }
+    {
+        self.numbers.close_up(self.table.slots());
+        drop_numbers(&mut self.tags, self.table.slots());
+        self.table.close_up();
     }
 
     /// Lets a node stand that the entry of this number puts, in the place of what stood at its place or
@@ -147,13 +173,14 @@ impl Tree {
         ensures room { self.old.room ≤ self.new.room + 1 }
     {
         let (node, key, parent) = planned.into_parts();
-        match self.table.index_of(&key) {
+        match self.table.slot_of(&key) {
             Some(index) => {
                 self.numbers.replace(index, number);
                 self.table.replace(index, node);
             }
             None => {
                 self.numbers.add(number);
+                self.tags.push(tag_of(&parent)).unwrap();
                 self.table.add(node, key, parent);
             }
         }
@@ -165,7 +192,6 @@ impl Tree {
         ensures origins { self.new.origins ≡ origins_after (Some (Gone place.now)) 0 self.old.origins }
         ensures room { self.old.room ≤ self.new.room }
     {
-        self.numbers.remove(self.table.nodes(), place);
         self.table.remove(place);
     }
 
@@ -176,7 +202,7 @@ impl Tree {
         ensures { IfOk result (λ items. items ≡ items_in self.now.nodes place.now path.now) }
     {
         let alloc = self.table.allocator();
-        let children = children_of(alloc, self.table.nodes(), place, path)?;
+        let children = children_of(alloc, self.table.slots(), &self.tags, place, path)?;
         let items = items_of(alloc, children)?;
         Ok(items)
     }
@@ -191,21 +217,22 @@ impl Tree {
         if size_at(self.table.node_at(from)) > MOST_FILE_BYTES {
             return Some(Which::FileSize);
         }
-        match self.limit_after(from, to, moving) {
+        let (numbers, paths) = self.limits_after(from, to, moving);
+        match numbers {
             Some(limit) => Some(limit),
-            None => limit_of_paths(from, to, self.table.nodes()),
+            None => paths,
         }
     }
 
-    /// The first limit that is passed by the numbers of what stands after a copy or move.
-    fn limit_after(&self, from: &Place, to: &Place, moving: bool) -> Option<Which>
-        ensures { result ≡ limit_after self.now.nodes from.now to.now moving }
+    /// The first limit that is passed by the numbers of what stands after a copy or move, and the limit
+    /// on the paths that it makes, where one passes it.
+    fn limits_after(&self, from: &Place, to: &Place, moving: bool) -> (Option<Which>, Option<Which>)
+        ensures numbers { result.0 ≡ limit_after self.now.nodes from.now to.now moving }
+        ensures paths { result.1 ≡ path_limit (copies from.now to.now self.now.nodes) }
     {
-        let nodes = self.table.nodes();
-        let total = amount_after(Amount::Bytes, from, to, moving, nodes);
-        let count = amount_after(Amount::Nodes, from, to, moving, nodes);
-        let siblings = amount_after(Amount::Siblings, from, to, moving, nodes);
-        first_passed(total, count, siblings)
+        let after = amounts_after(from, to, moving, self.table.slots());
+        let numbers = first_passed(after.bytes, after.nodes, after.siblings);
+        (numbers, limit_of_paths(after.long))
     }
 
     /// Plans a copy or move of what stands at `from`, and of all below it, to `to`, by which no limit
@@ -219,7 +246,7 @@ impl Tree {
         requires within { IsSomeAnd (node_at self.now.nodes from.now) (λ standing. limit_of_carry self.now.nodes from.now to.now moving standing ≡ None) }
         ensures { IfOk result (λ planned. planned ≡ record { from = from.now; to = to.now; moving = moving; nodes = copies from.now to.now self.now.nodes }) }
     {
-        PlannedCarry::new(self.table.allocator(), from, to, moving, self.table.nodes())
+        PlannedCarry::new(self.table.allocator(), from, to, moving, self.table.slots())
     }
 
     /// Room for all that a copy or move makes.
@@ -244,10 +271,11 @@ impl Tree {
         copy_numbers(
             &mut numbers,
             self.numbers.numbers(),
-            self.table.nodes(),
+            self.table.slots(),
             &from,
         );
         self.clear(&from, &to, moving);
+        push_tags(&mut self.tags, &nodes);
         self.table.add_all(nodes);
         self.numbers.extend(&numbers);
     }
@@ -272,11 +300,11 @@ impl Tree {
         ensures { (later : ℕ) → later ≢ number → option_copied result
             ≡ body_from (nodes_after (act_of change.now) self.now.nodes) (origins_after (act_of change.now) later self.now.origins) number }
     {
-        let nodes = self.table.nodes();
+        let slots = self.table.slots();
         let found = self.numbers.nodes_of(number);
-        match first_standing(found, nodes, Part::Left, change) {
+        match first_standing(found, slots, Part::Left, change) {
             Some(standing) => Some(standing),
-            None => first_standing(found, nodes, Part::Copied, change),
+            None => first_standing(found, slots, Part::Copied, change),
         }
     }
 }

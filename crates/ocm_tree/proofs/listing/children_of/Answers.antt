@@ -1,8 +1,7 @@
 use Rattle.std.proofs.Common.{◌∙◌, ap}
 use Rattle.std.specs.Prelude.{filter}
-use Rattle.ocm_entry.specs.declared.rows.Node.{Node}
-use Rattle.ocm_rules.specs.Files.{same_place, parent_of}
-use Rattle.ocm_tree.specs.Listing.{in_order_of_names}
+use Rattle.ocm_tree.specs.Listing.{in_order_of_names, lies_in}
+use Rattle.ocm_tree.specs.Tables.{somes}
 use Rattle.ocm_tree.proofs.NamesInOrder.{in_order-map}
 use Rattle.ocm_tree.proofs.listing.children_of.Goals as goal
 
@@ -10,4 +9,4 @@ pub returns : goal.returns
 returns c =
     c.in_ok-sort_by_name.ensures
     ∙ ap in_order_of_names c.in_ok-found.ensures
-    ∙ in_order-map c.args.place.now c.args.path.now (filter (λ (n : Node). same_place (parent_of n.place) c.args.place.now) c.args.nodes.now)
+    ∙ in_order-map c.args.place.now c.args.path.now (filter (lies_in c.args.place.now) (somes c.args.slots.now))

@@ -8,4 +8,4 @@ pub returns-clause-order : goal.returns-clause-order
 returns-clause-order c =
     let permuted = rw c.list_all.ensures.nodes at c.sort_unstable_by_key.ensures.permutation in
     let up = IsNonDecreasingBy-from_sort_by_key (λ (node : NumberedNode). node.number) _ c.sort_unstable_by_key.ensures.sorted (λ a r q k. search rules) in
-    sorted-in_order c.args.numbers.now c.sort_unstable_by_key.new.self.items permuted up c.requires.few
+    sorted-in_order c.args.numbers.now c.sort_unstable_by_key.new.self.items permuted up

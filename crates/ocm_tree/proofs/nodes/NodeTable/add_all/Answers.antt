@@ -1,8 +1,17 @@
-use Rattle.std.proofs.Common.{◌≡◌, ◌++◌, ◌∷◌, ◌∙◌, sym, ap, subst, append_assoc}
+use Rattle.std.proofs.Common.{◌≡◌, ◌++◌, ◌∷◌, ◌∙◌, List, Some, map, length, length-append, sym, ap, subst, append_assoc, arith}
 use Rattle.std.specs.Vec.Iter.{into_iter_items}
+use Rattle.std.proofs.lemmas.List.Sums.{sum_by-cons, sum_by-append}
+use Rattle.ocm_entry.specs.declared.rows.Node.{Node}
+use Rattle.ocm_rules.specs.Files.{size_of, total_size}
 use Rattle.ocm_rules.specs.State.{EachOnce}
+use Rattle.ocm_tree.specs.Tables.{Slots, somes}
 use Rattle.ocm_tree.proofs.Once.{once-middle}
+use Rattle.ocm_tree.proofs.SlotNumbers.{somes-more}
 use Rattle.ocm_tree.proofs.nodes.NodeTable.add_all.Goals as goal
+
+all-nodes : (first now : Slots) (given given_so_far rest : List Node) (node : Node) → now ≡ first ++ map (λ (n : Node). Some n) given_so_far → given ≡ given_so_far ++ node ∷ rest → somes first ++ given ≡ somes now ++ node ∷ rest
+all-nodes first now given given_so_far rest node h e =
+    ap (λ l. somes first ++ l) e ∙ (sym (append_assoc (somes first) given_so_far (node ∷ rest)) ∙ ap (λ l. l ++ node ∷ rest) (sym (ap somes h ∙ somes-more first given_so_far)))
 
 pub add_planned-requires-clause-absent : goal.add_planned-requires-clause-absent
 add_planned-requires-clause-absent c =
@@ -11,6 +20,28 @@ add_planned-requires-clause-absent c =
     let rest = into_iter_items c.next.new.self in
     let steps : into_iter_items at.planned-iterator ≡ node ∷ rest = c.in-Some.ensures.steps.0 in
     let given : c.args.nodes.items ≡ at.yielded ++ node ∷ rest = sym c.into_iter-planned-iterator.ensures.into_iter_gives.0 ∙ sym at.invariant.0 ∙ ap (λ l. at.yielded ++ l) steps in
-    let all : c.args.self.now.nodes ++ c.args.nodes.items ≡ at.self.nodes ++ node ∷ rest =
-    ap (λ l. c.args.self.now.nodes ++ l) given ∙ sym (append_assoc c.args.self.now.nodes at.yielded (node ∷ rest)) ∙ ap (λ l. l ++ node ∷ rest) (sym at.invariant.2) in
-    once-middle at.self.nodes node rest (subst EachOnce all c.requires.once)
+    let all = all-nodes c.args.self.now.slots at.self.slots c.args.nodes.items at.yielded rest node at.invariant.2 given in
+    once-middle (somes at.self.slots) node rest (subst EachOnce all c.requires.once)
+
+pub add_planned-requires-clause-few : goal.add_planned-requires-clause-few
+add_planned-requires-clause-few c =
+    let at = c.loop-planned in
+    let node = c.in-Some.planned in
+    let rest = into_iter_items c.next.new.self in
+    let steps : into_iter_items at.planned-iterator ≡ node ∷ rest = c.in-Some.ensures.steps.0 in
+    let given : c.args.nodes.items ≡ at.yielded ++ node ∷ rest = sym c.into_iter-planned-iterator.ensures.into_iter_gives.0 ∙ sym at.invariant.0 ∙ ap (λ l. at.yielded ++ l) steps in
+    let all = ap length (all-nodes c.args.self.now.slots at.self.slots c.args.nodes.items at.yielded rest node at.invariant.2 given) in
+    let parts = length-append (somes at.self.slots) (node ∷ rest) in
+    omega (arith, all, parts, c.requires.few)
+
+pub add_planned-requires-clause-light : goal.add_planned-requires-clause-light
+add_planned-requires-clause-light c =
+    let at = c.loop-planned in
+    let node = c.in-Some.planned in
+    let rest = into_iter_items c.next.new.self in
+    let steps : into_iter_items at.planned-iterator ≡ node ∷ rest = c.in-Some.ensures.steps.0 in
+    let given : c.args.nodes.items ≡ at.yielded ++ node ∷ rest = sym c.into_iter-planned-iterator.ensures.into_iter_gives.0 ∙ sym at.invariant.0 ∙ ap (λ l. at.yielded ++ l) steps in
+    let all = ap total_size (all-nodes c.args.self.now.slots at.self.slots c.args.nodes.items at.yielded rest node at.invariant.2 given) in
+    let parts = sum_by-append (λ (n : Node). size_of n.standing) (somes at.self.slots) (node ∷ rest) in
+    let more = sum_by-cons (λ (n : Node). size_of n.standing) node rest in
+    omega (arith, all, parts, more, c.requires.light)

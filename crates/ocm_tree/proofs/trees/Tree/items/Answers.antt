@@ -3,6 +3,7 @@ use Rattle.std.specs.Prelude.{map}
 use Rattle.ocm_rules.specs.Files.{children}
 use Rattle.ocm_rules.specs.Answers.{items_in}
 use Rattle.ocm_tree.specs.declared.listing.Child.{Child}
+use Rattle.ocm_tree.specs.Tables.{somes}
 use Rattle.ocm_tree.proofs.Listed.{items-children}
 use Rattle.ocm_tree.proofs.trees.Tree.items.Goals as goal
 
@@ -10,6 +11,13 @@ pub returns : goal.returns
 returns c =
     let place = c.args.place.now in
     let path = c.args.path.now in
-    let told : c.in_ok-items.items ≡ items_in c.nodes.result.now place path =
-    c.in_ok-items.ensures ∙ ap (map (λ (child : Child). child.item)) c.in_ok-children.ensures ∙ items-children place path (children c.nodes.result.now place) in
-    rw (← c.self.view_is) (told ∙ ap (λ ns. items_in ns place path) c.nodes.ensures.nodes)
+    let told : c.in_ok-items.items ≡ items_in (somes c.slots.result.now) place path =
+    c.in_ok-items.ensures ∙ ap (map (λ (child : Child). child.item)) c.in_ok-children.ensures ∙ items-children place path (children (somes c.slots.result.now) place) in
+    rw (← c.self.view_is) (told ∙ ap (λ ss. items_in (somes ss) place path) c.slots.ensures.slots)
+
+pub children_of-requires : goal.children_of-requires
+children_of-requires c = record {
+  short = c.requires.short;
+  same = rw (c.slots.ensures.slots, c.deref.ensures.value) c.self.invariant.also;
+  tagged = rw (c.slots.ensures.slots, c.deref.ensures.value) c.self.invariant.tagged;
+}

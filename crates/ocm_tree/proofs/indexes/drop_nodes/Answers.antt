@@ -1,6 +1,0 @@
-use Rattle.std.proofs.Common.{rules}
-use Rattle.std.proofs.lemmas.Fn.{filter_same}
-use Rattle.ocm_tree.proofs.indexes.drop_nodes.Goals as goal
-
-pub returns-clause-nodes : goal.returns-clause-nodes
-returns-clause-nodes c = filter_same _ _ _ (λ x b f' k. search rules) _ _ c.retain.ensures.filtered
