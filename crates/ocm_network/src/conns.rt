@@ -1,0 +1,107 @@
+ghost use Rattle.std.specs.Prelude.{◌≡◌, ◌<◌, ◌≤◌, ◌++◌, None, IfOk, OnErr, length};
+ghost use Rattle.ocm_base.specs.Outside.{Rose};
+ghost use Rattle.ocm_connections.specs.Sides.{Sides};
+
+use ocm_base::{Failed, Joined, Sink, Source};
+use ocm_connections::Conn;
+use ocm_http::{Fixed, FrameFault, Message, Reader, write_fixed};
+use ocm_sockets::Line;
+use std::time;
+
+/// A connection of the system's, as a worker has it. It tells nothing of what it reads and writes. One number counts its
+/// faults of reading and of writing.
+#[derive(Drop)]
+pub struct StreamConn<'a, R: time::Clock> {
+    line: Line<'a, R>,
+    faults: u64,
+}
+
+impl<'a, R: time::Clock> StreamConn<'a, R> {
+    /// A connection over this line, with no fault so far.
+    pub fn new(line: Line<'a, R>) -> StreamConn<'a, R> {
+        StreamConn { line, faults: 0 }
+    }
+
+    /// Whether it had no fault.
+    pub fn is_sound(&self) -> bool {
+        self.faults == 0
+    }
+
+    /// The line.
+    pub fn into_line(self) -> Line<'a, R> {
+        self.line
+    }
+
+    /// Counts a fault.
+    fn fail(&mut self) -> Failed
+        ensures rose { Rose self.old.faults self.new.faults }
+        ensures never_falls { self.old.faults ≤ self.new.faults }
+    {
+        self.faults = self.faults.saturating_add(1);
+        Failed
+    }
+}
+
+impl<'a, R: time::Clock> Source for StreamConn<'a, R> {
+    ghost left = { λ _. None };
+
+    ghost faults = { λ c. c.faults };
+
+    fn read(&mut self, buf: &mut [u8]) -> Result<usize, Failed> {
+        match self.line.read(buf) {
+            Some(n) => Ok(n),
+            None => Err(self.fail()),
+        }
+    }
+
+    fn rests(&mut self) -> bool {
+        self.line.rests()
+    }
+}
+
+impl<'a, R: time::Clock> Sink for StreamConn<'a, R> {
+    ghost taken = { λ _. None };
+
+    ghost faults = { λ c. c.faults };
+
+    fn write(&mut self, piece: &[u8]) -> Result<usize, Failed> {
+        if self.line.write(piece, &[]) {
+            Ok(piece.len())
+        } else {
+            Err(self.fail())
+        }
+    }
+
+    fn write_two(&mut self, first: &[u8], second: &[u8]) -> Result<usize, Failed> {
+        if self.line.write(first, second) {
+            Ok(first.len() + second.len())
+        } else {
+            Err(self.fail())
+        }
+    }
+}
+
+impl<'a, R: time::Clock> Conn for StreamConn<'a, R> {
+    ghost sides = { λ c. record {
+      left = None;
+      taken = None;
+      read_faults = c.faults;
+      write_faults = c.faults;
+    } };
+
+    fn next(&mut self, reader: &mut Reader) -> Result<Option<Message>, FrameFault> {
+        reader.next(self)
+    }
+
+    fn rests(&mut self) -> bool {
+        self.line.rests()
+    }
+
+    fn send(&mut self, piece: &Joined) -> Result<(), Failed> {
+        piece.write_to(self)
+    }
+
+    fn send_fixed(&mut self, which: Fixed) -> Result<(), Failed> {
+        write_fixed(self, which)
+    }
+}

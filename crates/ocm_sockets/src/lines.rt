@@ -1,0 +1,433 @@
+//! A connection of the system's, with what came ahead of a read and what is not sent yet.
+ghost use Rattle.std.specs.Prelude.{◌≤◌, ◌++◌, IfSome, length};
+
+use crate::streams::{read_now, write_now};
+use crate::waits::{Waits, Wanted, millis};
+use crate::wholes::message_end;
+use std::alloc::Global;
+use std::net::{Shutdown, TcpStream};
+use std::os::fd::{AsRawFd, RawFd};
+use std::sync::Arc;
+use std::time;
+use std::time::Duration;
+
+/// How long a read lingers for the next message, and a write for room, in milliseconds.
+pub const LINGER: u64 = 2;
+
+/// How long a message may take from its first byte on, and a page to be sent, in milliseconds, beside one for each four
+/// bytes. What looks at it comes every half second.
+const MESSAGE: u64 = 9_000;
+
+/// How long what comes after a last page is passed over, in milliseconds.
+const CLOSING: u64 = 2_000;
+
+/// How long one read waits in the middle of a message before the limits are looked at, in milliseconds.
+const TICK: u64 = 500;
+
+/// How many messages follow one another at most before others have a turn.
+const MOST_TURNS: u32 = 64;
+
+/// How many bytes that came ahead are held in any case.
+const AHEAD_IN_ANY_CASE: usize = 16_384;
+
+/// How many bytes of one connection are kept unsent at most.
+const MOST_UNSENT: usize = 16_777_216;
+
+/// How many bytes one read takes while a connection lingers.
+const PIECE: usize = 8_192;
+
+/// What is to be done with a line that the set told of.
+#[derive(Clone, Copy, Debug, PartialEq, Eq)]
+pub enum Step {
+    /// A worker is to serve its next message.
+    Serve,
+    /// It waits for more.
+    Wait,
+    /// It is closed.
+    Close,
+}
+
+/// What else may come from the peer.
+#[derive(Clone, Copy, Debug, PartialEq, Eq)]
+enum Incoming {
+    /// More bytes.
+    Open,
+    /// Nothing: the end came.
+    Ended,
+    /// Nothing that can be told: reading failed.
+    Broken,
+}
+
+/// A stream, with the bytes that came ahead of a read, and those that were taken and are not sent yet.
+#[derive(Drop)]
+pub struct Line<'a, R: time::Clock> {
+    rt: &'a R,
+    alloc: Global,
+    waits: Arc<Waits>,
+    stream: TcpStream,
+    incoming: Incoming,
+    ahead: Vec<u8>,
+    /// How many bytes of those ahead were read.
+    used: usize,
+    /// Where the message at the front of those ahead ends, 0 where it doesn't look whole.
+    whole: usize,
+    unsent: Vec<u8>,
+    sent: usize,
+    /// The last thing that was asked of it is whether it rests, and it does.
+    resting: bool,
+    /// A read waits for a tick, and not for the linger.
+    slow: bool,
+    /// The set knows the descriptor. It tells nothing of it until it is asked again.
+    listed: bool,
+    /// No more messages are served: what is unsent is sent, and what comes is passed over.
+    closing: bool,
+    /// Since when it rests, or its message or the sending of its page goes on, in milliseconds.
+    since: u64,
+    /// How many bytes moved since.
+    moved: u64,
+    /// How many of its bytes are counted in the set.
+    held: u64,
+    /// How often it went on in a row without being handed back.
+    turns: u32,
+}
+
+impl<'a, R: time::Clock> Line<'a, R> {
+    /// A line over this stream.
+    pub fn new(rt: &'a R, alloc: Global, waits: Arc<Waits>, stream: TcpStream) -> Line<'a, R> {
+        Line {
+            rt,
+            alloc,
+            waits,
+            stream,
+            incoming: Incoming::Open,
+            ahead: Vec::new(alloc),
+            used: 0,
+            whole: 0,
+            unsent: Vec::new(alloc),
+            sent: 0,
+            resting: false,
+            slow: false,
+            listed: false,
+            closing: false,
+            since: millis(rt),
+            moved: 0,
+            held: 0,
+            turns: 0,
+        }
+    }
+
+    /// Its descriptor.
+    pub fn fd(&self) -> RawFd {
+        self.stream.as_raw_fd()
+    }
+
+    /// Whether it was asked last whether it rests, and does.
+    pub fn is_resting(&self) -> bool {
+        self.resting
+    }
+
+    /// Whether nothing more can be read.
+    pub fn has_ended(&self) -> bool {
+        self.incoming != Incoming::Open
+    }
+
+    /// Whether some bytes that were taken are not sent yet.
+    pub fn has_unsent(&self) -> bool {
+        self.sent < self.unsent.len()
+    }
+
+    /// Since when it waits, in milliseconds.
+    pub fn since(&self) -> u64 {
+        self.since
+    }
+
+    /// The time from which on it is dropped where it waits in the set, by how long a connection may rest between two
+    /// messages.
+    pub fn limit(&self, rest: u64) -> u64 {
+        if self.has_unsent() || !self.ahead.is_empty() {
+            self.late_at()
+        } else if self.closing {
+            self.since.saturating_add(CLOSING)
+        } else {
+            self.since.saturating_add(rest)
+        }
+    }
+
+    /// When the message, or the page, that began then is late.
+    fn late_at(&self) -> u64 {
+        self.since
+            .saturating_add(MESSAGE)
+            .saturating_add(self.moved / 4)
+    }
+
+    /// Begins to count the time anew.
+    fn begin(&mut self) {
+        self.since = millis(self.rt);
+        self.moved = 0;
+    }
+
+    /// Counts in the set what it holds.
+    pub fn count(&mut self) {
+        let held = (self.ahead.len() as u64).saturating_add(self.unsent.len() as u64);
+        self.waits.hold(self.held, held);
+        self.held = held;
+    }
+
+    /// Closes it.
+    pub fn close(self) {
+        self.waits.hold(self.held, 0);
+    }
+
+    /// What the set is to be asked from now on: whether the line is new there, and for what it waits.
+    pub fn wanted(&mut self) -> (bool, Wanted) {
+        self.linger_again();
+        let is_new = !self.listed;
+        self.listed = true;
+        if self.has_unsent() {
+            (is_new, Wanted::Writable)
+        } else {
+            (is_new, Wanted::Readable)
+        }
+    }
+
+    /// Has reads linger and not tick.
+    fn linger_again(&mut self) {
+        let wait = Some(Duration::from_millis(LINGER));
+        if self.slow && self.stream.set_read_timeout(wait).is_ok() {
+            self.slow = false;
+        }
+    }
+
+    /// Begins to rest.
+    pub fn begin_rest(&mut self) {
+        self.begin();
+        self.turns = 0;
+        self.resting = false;
+    }
+
+    /// Ends the sending side once all is sent, and passes over what still comes: bytes that nobody reads would turn the
+    /// close into a reset, which may take the last page with it.
+    pub fn begin_close(&mut self) {
+        self.begin();
+        self.closing = true;
+        self.ahead = Vec::new(self.alloc);
+        self.used = 0;
+        self.whole = 0;
+        self.end_sending();
+    }
+
+    /// Ends the sending side of a line that closes, where all is sent.
+    fn end_sending(&mut self) {
+        if self.closing && !self.has_unsent() {
+            let _ = self.stream.shutdown(Shutdown::Write);
+        }
+    }
+
+    /// Does what can be done at once: sends what is unsent, and then reads, unless a message is here already.
+    pub fn advance(&mut self, piece: &mut [u8]) -> Step {
+        if self.has_unsent() {
+            if !self.send_now() {
+                return Step::Close;
+            }
+            if self.has_unsent() {
+                return Step::Wait;
+            }
+            if self.has_message() {
+                return Step::Serve;
+            }
+        }
+        self.fill(piece);
+        if self.has_message() || (self.has_ended() && self.has_part()) {
+            Step::Serve
+        } else if self.has_ended() {
+            Step::Close
+        } else {
+            Step::Wait
+        }
+    }
+
+    /// Reads what is there. A line that closes passes it over.
+    fn fill(&mut self, piece: &mut [u8]) {
+        match read_now(&self.stream, piece) {
+            Ok(Some(0)) => self.incoming = Incoming::Ended,
+            Ok(Some(n)) if self.closing || self.gather(&piece[..n]) => {}
+            Ok(None) => {}
+            _ => self.incoming = Incoming::Broken,
+        }
+    }
+
+    /// Puts bytes behind those that are ahead. Answers whether there was memory for them.
+    fn gather(&mut self, piece: &[u8]) -> bool {
+        if self.ahead.is_empty() {
+            self.begin();
+        }
+        self.moved = self.moved.saturating_add(piece.len() as u64);
+        self.ahead.extend_from_slice(piece).is_ok()
+    }
+
+    /// Whether a message is ahead that is to be served now: it looks whole, or all connections together hold too much.
+    fn has_message(&mut self) -> bool {
+        let is_pressed = self.ahead.len() > AHEAD_IN_ANY_CASE && !self.waits.has_room();
+        self.whole = match message_end(&self.ahead) {
+            Some(end) => end,
+            None if is_pressed => self.ahead.len(),
+            None => 0,
+        };
+        self.whole > 0
+    }
+
+    /// Lets a message that is cut be served as far as it came. Answers whether something came of it.
+    fn has_part(&mut self) -> bool {
+        self.whole = self.ahead.len();
+        self.whole > 0
+    }
+
+    /// Whether the line is to be handed back until the set tells of it: no whole message is here to read, or the page
+    /// before is not sent. Where a worker is free, it lingers for a message first.
+    pub fn rests(&mut self) -> bool {
+        if self.used < self.whole || self.has_ended() {
+            return false;
+        }
+        self.drop_used();
+        self.resting = self.has_unsent() || !(self.has_message() || self.lingers());
+        self.resting
+    }
+
+    /// Drops the bytes ahead that were read.
+    fn drop_used(&mut self) {
+        if self.used >= self.ahead.len() {
+            self.ahead.clear();
+        } else {
+            let _ = self.ahead.drain(..self.used);
+        }
+        self.used = 0;
+        self.whole = 0;
+    }
+
+    /// Waits for a moment for the next message, where no other connection waits for this worker. Answers whether one
+    /// came, or the end.
+    fn lingers(&mut self) -> bool {
+        if self.turns >= MOST_TURNS || !self.waits.has_waiting() {
+            return false;
+        }
+        self.turns += 1;
+        self.linger_again();
+        let mut piece = [0u8; PIECE];
+        self.fill(&mut piece);
+        self.has_ended() || self.has_message()
+    }
+
+    /// What came ahead, or else what comes. None where the line failed or was too slow.
+    pub fn read(&mut self, buf: &mut [u8]) -> Option<usize>
+        ensures { IfSome result (λ n. n ≤ length buf.old) }
+    {
+        self.resting = false;
+        if self.used < self.ahead.len() {
+            let n = hand_on(self.at_hand(), buf);
+            self.used = self.used.saturating_add(n);
+            return Some(n);
+        }
+        match self.incoming {
+            Incoming::Open => self.read_waiting(buf),
+            Incoming::Ended => Some(0),
+            Incoming::Broken => None,
+        }
+    }
+
+    /// The bytes ahead of the message at their front, and behind these the others.
+    fn at_hand(&self) -> &[u8] {
+        let end = if self.used < self.whole {
+            self.whole
+        } else {
+            self.ahead.len()
+        };
+        self.ahead.get(self.used..end).unwrap_or_default()
+    }
+
+    /// Reads by waiting, for as long as the message is in time.
+    fn read_waiting(&mut self, buf: &mut [u8]) -> Option<usize>
+        ensures { IfSome result (λ n. n ≤ length buf.old) }
+    {
+        for _ in 0..u64::MAX {
+            if let Some(n) = read_now(&self.stream, buf).ok()? {
+                if n == 0 {
+                    self.incoming = Incoming::Ended;
+                }
+                self.moved = self.moved.saturating_add(n as u64);
+                return Some(n);
+            }
+            if millis(self.rt) > self.late_at() || !self.tick() {
+                return None;
+            }
+        }
+        None
+    }
+
+    /// Has reads tick and not linger. Answers whether the system took that.
+    fn tick(&mut self) -> bool {
+        if !self.slow {
+            let wait = Some(Duration::from_millis(TICK));
+            self.slow = self.stream.set_read_timeout(wait).is_ok();
+        }
+        self.slow
+    }
+
+    /// Takes all of both pieces, one behind the other: sends what goes at once, in one call of the system, and keeps the
+    /// rest to be sent by whoever is told that the peer takes more. Answers whether it took them.
+    pub fn write(&mut self, first: &[u8], second: &[u8]) -> bool {
+        self.resting = false;
+        let mut done = 0;
+        if !self.has_unsent() {
+            self.begin();
+            let Some(n) = write_now(&self.stream, first, second) else {
+                return false;
+            };
+            done = n;
+        }
+        let (front, back) = behind(first, second, done);
+        self.keep(front) && self.keep(back)
+    }
+
+    /// Keeps bytes to be sent later. Answers whether there was room for them, of its own and of all connections.
+    fn keep(&mut self, piece: &[u8]) -> bool {
+        let has_room = self.unsent.len() < MOST_UNSENT && self.waits.has_room();
+        piece.is_empty() || (has_room && self.unsent.extend_from_slice(piece).is_ok())
+    }
+
+    /// Sends what is unsent, as much as goes now. Answers whether the stream still works.
+    fn send_now(&mut self) -> bool {
+        let unsent = self.unsent.get(self.sent..).unwrap_or_default();
+        let Some(n) = write_now(&self.stream, unsent, &[]) else {
+            return false;
+        };
+        self.sent = self.sent.saturating_add(n);
+        self.moved = self.moved.saturating_add(n as u64);
+        if !self.has_unsent() {
+            self.unsent = Vec::new(self.alloc);
+            self.sent = 0;
+            self.begin();
+            self.end_sending();
+        }
+        true
+    }
+}
+
+/// What two pieces have behind their first bytes.
+fn behind<'a>(first: &'a [u8], second: &'a [u8], n: usize) -> (&'a [u8], &'a [u8])
+    requires { n ≤ length (first.now ++ second.now) }
+{
+    if n < first.len() {
+        (&first[n..], second)
+    } else {
+        (&[], &second[n - first.len()..])
+    }
+}
+
+/// Copies from the front of the bytes, and answers how many.
+fn hand_on(bytes: &[u8], buf: &mut [u8]) -> usize
+    ensures within { result ≤ length buf.old }
+{
+    let n = bytes.len().min(buf.len());
+    buf[..n].copy_from_slice(&bytes[..n]);
+    n
+}
