@@ -1,4 +1,4 @@
-//! Tests of what is kept and shared: sources and sinks, disks, journals, audits of them, and turnstiles.
+//! Tests of what is kept and shared: sources and sinks, disks, journals, and audits of them.
 //!
 //! They stand in a crate of their own above the ones that they test: a crate that has tests is proved a second time with
 //! them, and all that stands on it waits.
@@ -12,5 +12,3 @@ mod disks;
 mod journals;
 #[cfg(test)]
 mod streams;
-#[cfg(test)]
-mod turnstiles;
