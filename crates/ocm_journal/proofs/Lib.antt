@@ -8,5 +8,6 @@ pub mod Made
 pub mod Moving
 pub mod OfBlank
 pub mod OpenedImage
+pub mod Passing
 pub mod RenewStands
 pub mod Renewed

@@ -2,5 +2,6 @@ pub mod AfterFaults
 pub mod Faults
 pub mod Journals
 pub mod Openings
+pub mod Passing
 pub mod Steps
 pub mod Renewals

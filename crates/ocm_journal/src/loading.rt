@@ -4,6 +4,7 @@ ghost use Rattle.ocm_image.specs.Blank.{IsBlank, blank_of, made_form};
 ghost use Rattle.ocm_image.specs.Layout.{IsLabel, IsAreaSize, contents};
 ghost use Rattle.ocm_journal.specs.Journals.{disk_of, area_of, form_of, first_is_live, selects_first, StandsFor};
 ghost use Rattle.ocm_journal.specs.Openings.{Opens, BlankSize, IsPlaced, ImageOpens, IsReadFault, IsCounted, IsSaidBy, StaysAsItOpens, IsMadeAs, opening, new_area};
+ghost use Rattle.ocm_journal.specs.Passing.{IsNoDiskFault, FailsWithDisk};
 
 use crate::faults::OpenFault;
 use crate::journal::Journal;
@@ -63,6 +64,7 @@ fn open_blank<D: Disk>(
     ensures any_moment { D.tells → Only (D.seen disk.old) (D.may_leave disk.old) → blank_of label.now area (D.seen disk.old) ≡ Some blank
         → LeavesOnly D.moment D.left_since disk.old disk.new (Opens label.now area []) }
     ensures fault { IfErr result (IsReadFault (D.count disk.old) (D.count disk.new)) }
+    ensures unfailing { FailsWithDisk ⟦<D as Disk>⟧ disk.old disk.new result }
 {
     let text = fresh_bytes(alloc, label, area, 2)?;
     disk.room(514)?;
@@ -97,6 +99,7 @@ fn open_synced<D: Disk>(
     ensures durable { D.tells → Only (D.seen disk.old) (D.may_leave disk.old) → OnOk result (Only (D.seen disk.new) (D.may_leave disk.new)) }
     ensures says { D.tells → IfErr result (IsSaidBy (opening label.now area (D.seen disk.old))) }
     ensures cause { IfErr result (IsCounted (D.count disk.old) (D.count disk.new)) }
+    ensures unfailing { FailsWithDisk ⟦<D as Disk>⟧ disk.old disk.new result }
     ensures any_moment { D.tells → Only (D.seen disk.old) (D.may_leave disk.old)
         → LeavesOnly D.moment D.left_since disk.old disk.new (StaysAsItOpens label.now area (D.seen disk.old)) }
 {
@@ -121,6 +124,7 @@ fn open<D: Disk>(alloc: Global, disk: &mut D, label: &[u8], area: u64) -> Result
     ensures durable { D.tells → OnOk result (Only (D.seen disk.new) (D.may_leave disk.new)) }
     ensures says { D.tells → IfErr result (IsSaidBy (opening label.now area (D.seen disk.old))) }
     ensures cause { IfErr result (IsCounted (D.count disk.old) (D.count disk.new)) }
+    ensures unfailing { FailsWithDisk ⟦<D as Disk>⟧ disk.old disk.new result }
     ensures any_moment { D.tells
         → LeavesOnly D.moment D.left_since disk.old disk.new (λ c. D.may_leave disk.old c ⊎ StaysAsItOpens label.now area (D.seen disk.old) c) }
 {
@@ -156,6 +160,11 @@ impl<D: Disk> Journal<D> {
         ensures goes { IfOk result (λ loaded. loaded.0.stopped ≡ false) }
         ensures says { D.tells → IfErr result (λ failed. IsSaidBy (opening label.now (new_area limit) (D.seen disk)) failed.1) }
         ensures cause { IfErr result (λ failed. IsCounted (D.count disk) (D.count failed.0) failed.1) }
+        ensures count { IfOk result (λ loaded. D.count (disk_of loaded.0) ≡ D.count disk) }
+
+        // A disk whose calls all pass tells no fault, and its calls pass from then on.
+        ensures passes { ((n : ℕ) → D.passes disk n) → IfOk result (λ loaded. (n : ℕ) → D.passes (disk_of loaded.0) n) }
+        ensures unfailing { ((n : ℕ) → D.passes disk n) → IfErr result (λ failed. IsNoDiskFault failed.1) }
 
         // A crash at any moment leaves what it might have left before the call, or, from the first sync on, the bytes
         // as they were read, or, while a journal is made, what opens to no records.

@@ -4,6 +4,7 @@ ghost use Rattle.ocm_disk.specs.Disk.{Only, LeavesOnly, HasCause};
 ghost use Rattle.ocm_image.specs.Blank.{blank_of, made_form};
 ghost use Rattle.ocm_image.specs.Layout.{IsLabel, IsAreaSize, IsForm, fresh};
 ghost use Rattle.ocm_journal.specs.Openings.{Opens, BlankSize};
+ghost use Rattle.ocm_journal.specs.Passing.{PassesWithDisk};
 
 use crate::steps::put;
 use ocm_base::Failed;
@@ -19,6 +20,7 @@ pub(crate) fn finish<D: Disk>(disk: &mut D) -> Result<(), Failed>
         → D.seen disk.old ≡ x ∷ fresh label area form → LeavesOnly D.moment D.left_since disk.old disk.new (Opens label area []) }
     ensures size { OnOk result (D.size disk.new ≡ 514) }
     ensures cause { HasCause (D.count disk.old) (D.count disk.new) result }
+    ensures passes { PassesWithDisk ⟦<D as Disk>⟧ disk.old disk.new result }
 {
     put(disk, 0, &[1])
 }
@@ -34,6 +36,7 @@ pub(crate) fn go_on<D: Disk>(disk: &mut D, text: &[u8]) -> Result<(), Failed>
         → text.now ≡ fresh label area 2 → LeavesOnly D.moment D.left_since disk.old disk.new (Opens label area []) }
     ensures size { OnOk result (D.size disk.new ≡ 514) }
     ensures cause { HasCause (D.count disk.old) (D.count disk.new) result }
+    ensures passes { PassesWithDisk ⟦<D as Disk>⟧ disk.old disk.new result }
 {
     put(disk, 1, text)?;
     finish(disk)
@@ -49,6 +52,7 @@ pub(crate) fn begin<D: Disk>(disk: &mut D, text: &[u8]) -> Result<(), Failed>
         → text.now ≡ fresh label area 2 → LeavesOnly D.moment D.left_since disk.old disk.new (Opens label area []) }
     ensures size { OnOk result (D.size disk.new ≡ 514) }
     ensures cause { HasCause (D.count disk.old) (D.count disk.new) result }
+    ensures passes { PassesWithDisk ⟦<D as Disk>⟧ disk.old disk.new result }
 {
     put(disk, 0, &[0])?;
     go_on(disk, text)
@@ -65,6 +69,7 @@ pub(crate) fn make<D: Disk>(disk: &mut D, blank: Blank, text: &[u8]) -> Result<(
         → text.now ≡ fresh label area 2 → blank_of label area (D.seen disk.old) ≡ Some blank → LeavesOnly D.moment D.left_since disk.old disk.new (Opens label area []) }
     ensures size { OnOk result (D.size disk.new ≡ 514) }
     ensures cause { HasCause (D.count disk.old) (D.count disk.new) result }
+    ensures passes { PassesWithDisk ⟦<D as Disk>⟧ disk.old disk.new result }
 {
     match blank {
         Blank::Empty => begin(disk, text),

@@ -5,6 +5,7 @@ ghost use Rattle.ocm_disk.specs.Disk.{LeavesOnly};
 ghost use Rattle.ocm_image.specs.Layout.{IsLabel, IsAreaSize};
 ghost use Rattle.ocm_image.specs.Reading.{header_of, area_of, start_of};
 ghost use Rattle.ocm_journal.specs.Openings.{records_in, records_below, IsReadFault, IsSaid, IsSaidBy, IsCounted, IsPlaced, ImageOpens};
+ghost use Rattle.ocm_journal.specs.Passing.{FailsWithDisk};
 
 use crate::faults::OpenFault;
 use ocm_base::{Bytes, List};
@@ -39,6 +40,7 @@ pub(crate) fn read_part<D: Disk>(
     ensures any_moment { D.tells → LeavesOnly D.moment D.left_since disk.old disk.new (D.may_leave disk.old) }
     ensures count { OnOk result (D.count disk.new ≡ D.count disk.old) }
     ensures fault { IfErr result (IsReadFault (D.count disk.old) (D.count disk.new)) }
+    ensures unfailing { FailsWithDisk ⟦<D as Disk>⟧ disk.old disk.new result }
 {
     let mut bytes = Vec::new(alloc);
     if bytes.resize(count as usize, 0).is_err() {
@@ -94,6 +96,7 @@ pub(crate) fn open_image<D: Disk>(
     ensures seen { D.seen disk.new ≡ D.seen disk.old }
     ensures crash { D.tells → (c : List ℕ) → D.may_leave disk.new c → D.may_leave disk.old c }
     ensures any_moment { D.tells → LeavesOnly D.moment D.left_since disk.old disk.new (D.may_leave disk.old) }
+    ensures unfailing { FailsWithDisk ⟦<D as Disk>⟧ disk.old disk.new result }
 {
     let len = disk.len();
     let header = read_header(alloc, len, front)?;

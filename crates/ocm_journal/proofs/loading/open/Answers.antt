@@ -2,8 +2,10 @@ use Rattle.std.proofs.Common.{◌⊎◌, ℕ, List, IfOk, is_some, inl, inr, sym
 use Rattle.ocm_image.specs.Blank.{blank_of}
 use Rattle.ocm_disk.specs.Disk.{Only}
 use Rattle.ocm_journal.specs.Openings.{IsMadeAs, StaysAsItOpens}
+use Rattle.ocm_journal.specs.Passing.{FailsWithDisk}
 use Rattle.ocm_journal.proofs.AppendStands.{on_ok}
 use Rattle.ocm_journal.proofs.Moving.{still, weaker, joined}
+use Rattle.ocm_journal.proofs.Passing.{not_failed, some_calls, behind_same}
 use Rattle.ocm_journal.proofs.loading.open.Goals as goal
 
 pub returns-clause-any_moment : goal.returns-clause-any_moment
@@ -29,3 +31,10 @@ returns-clause-same g c = λ tells none.
 
 pub returns-clause-first : goal.returns-clause-first
 returns-clause-first g c = λ tells blank. c.open_synced.ensures.first tells (ap (λ (l : List ℕ). is_some (blank_of c.args.label.now c.args.area l)) c.sync.ensures.seen ∙ blank)
+
+pub returns-then-is_err-clause-unfailing : goal.returns-then-is_err-clause-unfailing
+unfolding FailsWithDisk
+returns-then-is_err-clause-unfailing g c = (tt, λ all. absurd (not_failed c.sync.result (some_calls g.D.Disk c.args.disk.now c.sync.new.self c.sync.result 1 c.sync.ensures.passes all).0 (sym c.is_err.ensures.value ∙ c.if-is_err.true)))
+
+pub returns-clause-unfailing : goal.returns-clause-unfailing
+returns-clause-unfailing g c = behind_same g.D.Disk c.args.disk.now c.sync.new.self c.open_synced.new.disk c.open_synced.result (on_ok c.sync.result _ (sym c.is_err.ensures.value ∙ c.if-is_err.false) c.sync.ensures.cause.passed) (λ all. (some_calls g.D.Disk c.args.disk.now c.sync.new.self c.sync.result 1 c.sync.ensures.passes all).1) c.open_synced.ensures.unfailing

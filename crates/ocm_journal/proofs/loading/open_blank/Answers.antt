@@ -1,11 +1,14 @@
 use Rattle.std.proofs.Common.{◌≡◌, ℕ, [], List, Some, is_some, inl, refl, sym, ◌∙◌, ap, subst}
+use Rattle.std.proofs.lemmas.Result.{err_from_is_err_and}
 use Rattle.ocm_disk.specs.Disk.{Only}
 use Rattle.ocm_image.specs.Blank.{blank_of, IsBlank}
 use Rattle.ocm_journal.specs.Openings.{Opens}
+use Rattle.ocm_journal.specs.Passing.{FailsWithDisk}
 use Rattle.ocm_journal.proofs.AppendStands.{on_ok}
 use Rattle.ocm_journal.proofs.Made.{made_stands}
 use Rattle.ocm_journal.proofs.OfBlank.{made_of}
 use Rattle.ocm_journal.proofs.Moving.{still, joined}
+use Rattle.ocm_journal.proofs.Passing.{not_failed, with_room}
 use Rattle.ocm_journal.proofs.loading.open_blank.Goals as goal
 
 pub returns-then-is_err-clause-any_moment : goal.returns-then-is_err-clause-any_moment
@@ -41,3 +44,19 @@ returns-clause-opens g c = λ tells blank.
 
 pub returns-clause-made : goal.returns-clause-made
 returns-clause-made g c = λ blank. made_of c.args.label.now (g.D.Disk.seen c.args.disk.now) c.args.area c.made_form.result c.args.blank blank c.made_form.ensures
+
+pub returns-in_err-text-clause-unfailing : goal.returns-in_err-text-clause-unfailing
+unfolding FailsWithDisk
+returns-in_err-text-clause-unfailing g c = let p = err_from_is_err_and c.from_residual.result c.from_residual.ensures.1 in rw (p.1, p.2) (tt, λ all. (all, tt))
+
+pub returns-in_err-room-clause-unfailing : goal.returns-in_err-room-clause-unfailing
+unfolding FailsWithDisk
+returns-in_err-room-clause-unfailing g c = let p = err_from_is_err_and c.from_residual-in_err-room.result c.from_residual-in_err-room.ensures.1 in rw (p.1, p.2) (tt, λ all. (λ n. c.room.ensures.passes n (all n), tt))
+
+pub returns-then-is_err-clause-unfailing : goal.returns-then-is_err-clause-unfailing
+unfolding FailsWithDisk
+returns-then-is_err-clause-unfailing g c = (tt, λ all. absurd (not_failed c.make.result (with_room g.D.Disk c.room.new.self c.make.new.disk c.make.result c.make.ensures.passes c.in_ok-room.ensures.room (λ n. c.room.ensures.passes n (all n))).0 (sym c.is_err.ensures.value ∙ c.if-is_err.true)))
+
+pub returns-clause-unfailing : goal.returns-clause-unfailing
+unfolding FailsWithDisk
+returns-clause-unfailing g c = (on_ok c.make.result _ (sym c.is_err.ensures.value ∙ c.if-is_err.false) c.make.ensures.cause.passed ∙ c.room.ensures.count, λ all. ((with_room g.D.Disk c.room.new.self c.make.new.disk c.make.result c.make.ensures.passes c.in_ok-room.ensures.room (λ n. c.room.ensures.passes n (all n))).1, tt))

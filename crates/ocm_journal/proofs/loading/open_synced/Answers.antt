@@ -1,10 +1,13 @@
 use Rattle.std.proofs.Common.{◌≡◌, ℕ, [], List, length, Some, None, IfOk, is_some, inl, inr, sym, ◌∙◌, ap, subst}
+use Rattle.std.proofs.lemmas.Result.{err_from_is_err_and}
 use Rattle.ocm_disk.specs.Disk.{Only}
 use Rattle.ocm_image.specs.Blank.{blank_of, IsBlank}
 use Rattle.ocm_journal.specs.Openings.{Opens, IsMadeAs, StaysAsItOpens}
+use Rattle.ocm_journal.specs.Passing.{FailsWithDisk}
 use Rattle.ocm_journal.proofs.Moving.{weaker, joined}
 use Rattle.ocm_journal.proofs.OfBlank.{if_ok_each, none_made}
 use Rattle.ocm_journal.proofs.OpenedImage.{front_is}
+use Rattle.ocm_journal.proofs.Passing.{behind}
 use Rattle.ocm_journal.proofs.loading.open_synced.Goals as goal
 
 pub returns-in-Some-clause-any_moment : goal.returns-in-Some-clause-any_moment
@@ -58,3 +61,17 @@ returns-clause-first g c = λ tells is_blank.
     let size : length seen ≡ c.len-len.result = g.met.D.Disk.sizes c.args.disk.now tells ∙ sym c.len-len.ensures in
     let none : blank_of c.args.label.now c.args.area seen ≡ None = sym (c.in_ok-blank.ensures.blank seen size front) ∙ c.in-None.is in
     absurd (let e = sym (ap (λ o. is_some o) none) ∙ is_blank in cc)
+
+pub returns-in_err-front-clause-unfailing : goal.returns-in_err-front-clause-unfailing
+unfolding FailsWithDisk
+returns-in_err-front-clause-unfailing g c = let p = err_from_is_err_and c.from_residual.result c.from_residual.ensures.1 in rw (p.1, p.2) (tt, c.in_err-front.ensures.unfailing.1)
+
+pub returns-in_err-blank-clause-unfailing : goal.returns-in_err-blank-clause-unfailing
+unfolding FailsWithDisk
+returns-in_err-blank-clause-unfailing g c = let p = err_from_is_err_and c.from_residual-in_err-blank.result c.from_residual-in_err-blank.ensures.1 in rw (p.1, p.2) (tt, λ all. ((c.in_ok-front.ensures.unfailing.1 all).0, tt))
+
+pub returns-in-Some-clause-unfailing : goal.returns-in-Some-clause-unfailing
+returns-in-Some-clause-unfailing g c = behind g.D.Disk c.args.disk.now c.read_part.new.disk c.open_blank.new.disk c.in_ok-front.front c.open_blank.result c.in_ok-front.ensures.unfailing c.open_blank.ensures.unfailing
+
+pub returns-clause-unfailing : goal.returns-clause-unfailing
+returns-clause-unfailing g c = behind g.D.Disk c.args.disk.now c.read_part.new.disk c.open_image.new.disk c.in_ok-front.front c.open_image.result c.in_ok-front.ensures.unfailing c.open_image.ensures.unfailing

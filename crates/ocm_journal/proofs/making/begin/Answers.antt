@@ -1,5 +1,6 @@
-use Rattle.std.proofs.Common.{◌≡◌, ℕ, [], List, length, get_or, ap, arith}
+use Rattle.std.proofs.Common.{◌≡◌, ℕ, ◌+◌, [], List, length, get_or, ap, arith}
 use Rattle.ocm_journal.specs.Openings.{Opens}
+use Rattle.ocm_journal.specs.Passing.{PassesWithDisk}
 use Rattle.ocm_journal.proofs.Moving.{weaker, joined}
 use Rattle.ocm_journal.proofs.Made.{in_begin, begun}
 use Rattle.ocm_journal.proofs.making.begin.Goals as goal
@@ -25,3 +26,11 @@ returns-clause-any_moment g c = λ tells only label area label_size area_size is
     let before = weaker g.D.Disk.moment g.D.Disk.left_since c.args.disk.now c.put.new.disk _ (Opens label area []) (c.put.ensures.any_moment tells only) (λ b torn. in_begin label area seen b (omega (arith, size, c.requires.few)) torn) in
     let last = c.go_on.ensures.any_moment tells (c.in_ok-put.ensures.durable tells) (ap (λ (l : List ℕ). get_or l 0 0) stands) label area label_size area_size is in
     joined g.D.Disk.moment g.D.Disk.left_since c.args.disk.now c.put.new.disk c.go_on.new.disk (Opens label area []) before last
+
+pub returns-in_err-put-clause-passes : goal.returns-in_err-put-clause-passes
+unfolding PassesWithDisk
+returns-in_err-put-clause-passes g c = λ all room. absurd (let ok = (c.in_err-put.ensures.passes 0 (all 2) (omega (arith, room))).0 in cc)
+
+pub returns-clause-passes : goal.returns-clause-passes
+unfolding PassesWithDisk
+returns-clause-passes g c = λ all room. c.go_on.ensures.passes (λ n. (c.in_ok-put.ensures.passes n (all (n + 2)) (omega (arith, room))).1) (omega (arith, room, c.in_ok-put.ensures.spare))

@@ -2,7 +2,9 @@ use Rattle.std.proofs.Common.{rules, ◌≡◌, ℕ, min, List, length, sym, ◌
 use Rattle.std.proofs.lemmas.Result.{err_from_is_err_and}
 use Rattle.ocm_base.specs.Hex.{AreBytes}
 use Rattle.ocm_image.specs.Reading.{live_bytes}
+use Rattle.ocm_journal.specs.Passing.{FailsWithDisk}
 use Rattle.ocm_journal.proofs.OpenedImage.{if_ok, if_ok_both, if_err, front_header, said_header, other_label, label_same, below_is, area_wanting, live_read, reads_area, says_area, image_opens}
+use Rattle.ocm_journal.proofs.Passing.{always, image_fault, said_fault}
 use Rattle.ocm_journal.proofs.reading.open_image.Goals as goal
 
 pub returns-in_err-header-clause-says : goal.returns-in_err-header-clause-says
@@ -72,3 +74,23 @@ returns-clause-opens g c = λ tells is.
     let shown : c.deref.result.now ≡ live_bytes h seen = live_read h seen c.deref.result.now c.in_ok-bytes.bytes.items c.len-len.result c.start-start.result c.min.result size c.start-start.ensures c.min.ensures (c.in_ok-bytes.ensures.bytes tells) c.deref.ensures.value in
     let all = if_ok_both c.open_area.result _ _ (if_ok_both c.open_area.result _ _ c.open_area.ensures.reads c.open_area.ensures.header) c.open_area.ensures.bytes in
     if_ok c.open_area.result _ _ all (λ o f. image_opens c.args.label.now seen c.args.front.now c.deref.result.now h c.len-len.result o size few is front_are c.in_ok-header.ensures.reads found shown f.1 f.0.0 f.0.1.0 f.0.1.1 f.0.1.2)
+
+pub returns-in_err-header-clause-unfailing : goal.returns-in_err-header-clause-unfailing
+unfolding FailsWithDisk
+returns-in_err-header-clause-unfailing g c = let p = err_from_is_err_and c.from_residual.result c.from_residual.ensures.1 in rw (p.1, p.2) (tt, λ all. (all, image_fault c.in_err-header.field-0.0))
+
+pub returns-then-ne-clause-unfailing : goal.returns-then-ne-clause-unfailing
+unfolding FailsWithDisk
+returns-then-ne-clause-unfailing g c = (tt, λ all. (all, tt))
+
+pub returns-then-start-len-clause-unfailing : goal.returns-then-start-len-clause-unfailing
+unfolding FailsWithDisk
+returns-then-start-len-clause-unfailing g c = (tt, λ all. (all, tt))
+
+pub returns-in_err-bytes-clause-unfailing : goal.returns-in_err-bytes-clause-unfailing
+unfolding FailsWithDisk
+returns-in_err-bytes-clause-unfailing g c = let p = err_from_is_err_and c.from_residual-in_err-bytes.result c.from_residual-in_err-bytes.ensures.1 in rw (p.1, p.2) (tt, c.in_err-bytes.ensures.unfailing.1)
+
+pub returns-clause-unfailing : goal.returns-clause-unfailing
+unfolding FailsWithDisk
+returns-clause-unfailing g c = (always c.open_area.result c.in_ok-bytes.ensures.count, λ all. ((c.in_ok-bytes.ensures.unfailing.1 all).0, said_fault c.open_area.result _ c.open_area.ensures.fault))

@@ -1,5 +1,6 @@
 use Rattle.std.proofs.Common.{◌==◌, ap, sym}
 use Rattle.ocm_image.specs.Layout.{contents}
+use Rattle.ocm_journal.specs.Passing.{FailsWithDisk}
 use Rattle.ocm_journal.proofs.LiveAreas.{with_start}
 use Rattle.ocm_journal.proofs.journal.Journal.load.Goals as goal
 
@@ -11,3 +12,15 @@ returns-in-Ok-clause-live g c = λ tells. let o = c.in-Ok.ensures.opens tells in
 
 pub returns-in-Ok-clause-first : goal.returns-in-Ok-clause-first
 returns-in-Ok-clause-first g c = λ tells blank. ap (λ k. k == 512) (c.in-Ok.ensures.first tells blank)
+
+pub returns-in-Ok-clause-count : goal.returns-in-Ok-clause-count
+unfolding FailsWithDisk
+returns-in-Ok-clause-count g c = c.in-Ok.ensures.unfailing.0
+
+pub returns-in-Ok-clause-passes : goal.returns-in-Ok-clause-passes
+unfolding FailsWithDisk
+returns-in-Ok-clause-passes g c = λ all. (c.in-Ok.ensures.unfailing.1 all).0
+
+pub returns-in-Err-clause-unfailing : goal.returns-in-Err-clause-unfailing
+unfolding FailsWithDisk
+returns-in-Err-clause-unfailing g c = λ all. (c.in-Err.ensures.unfailing.1 all).1
