@@ -1,0 +1,5 @@
+pub mod Opens
+pub mod Journaling
+pub mod Exits
+pub mod Room
+pub mod Opened

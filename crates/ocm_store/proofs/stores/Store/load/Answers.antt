@@ -1,0 +1,53 @@
+use Rattle.std.proofs.Common.{◌≡◌, ◌⊎◌, ◌∙◌, List, ℕ, sym, subst}
+use Rattle.std.specs.Prelude.{IfOk}
+use Rattle.ocm_disk.specs.Disk.{LeavesOnly}
+use Rattle.ocm_image.specs.Layout.{IsLabel}
+use Rattle.ocm_journal.specs.Openings.{StaysAsItOpens, new_area, opening}
+use Rattle.ocm_journal.specs.Openings as openings
+use Rattle.ocm_store.specs.Opening.{IsSaidBy, loading}
+use Rattle.ocm_store.proofs.Opened.{IsLoaded, IsReplayed, all-opened, all-said, host-label, moments-err, moments-ok, replayed-all, said-opening, wider}
+use Rattle.ocm_store.proofs.stores.Store.load.Given.{Over}
+use Rattle.ocm_store.proofs.stores.Store.load.Goals as goal
+
+pub load-requires-clause-label : goal.load-requires-clause-label
+load-requires-clause-label g c =
+    let same : c.as_bytes.result.now ≡ c.args.host = c.as_bytes.ensures.value ∙ c.as_str.ensures ∙ c.text.ensures.text in
+    subst IsLabel (sym same) (host-label c.args.host c.text.ensures.canonical)
+
+-- the journal has the host as its label
+loaded : (g : Over) (c : goal.After-drop-records-inside g) → IsLoaded g.D.Disk c.args.host (new_area c.args.limit) c.args.disk c.in-Ok.journal c.in-Ok.records
+loaded g c =
+    let same : c.as_bytes.result.now ≡ c.args.host = c.as_bytes.ensures.value ∙ c.as_str.ensures ∙ c.text.ensures.text in
+    subst (λ (label : List ℕ). IsLoaded g.D.Disk label (new_area c.args.limit) c.args.disk c.in-Ok.journal c.in-Ok.records) same
+    (record { reads = c.in-Ok.ensures.reads; holds = c.in-Ok.ensures.stands; same = c.in-Ok.ensures.same; moments = c.in-Ok.ensures.moments_ok })
+
+replayed : (g : Over) (c : goal.After-drop-records-inside g) → IfOk c.replay.result (IsReplayed g.D.Disk c.args.host c.in-Ok.journal c.in-Ok.records)
+replayed g c = replayed-all g.D.Disk c.args.host c.in-Ok.journal c.in-Ok.records c.replay.result c.replay.ensures.host c.replay.ensures.journal c.replay.ensures.memory c.replay.ensures.goes
+
+pub returns-in-Ok-clause-opened : goal.returns-in-Ok-clause-opened
+returns-in-Ok-clause-opened g c = all-opened (loaded g c) g.met.D.Disk.reads_an_image c.replay.result (replayed g c)
+
+pub returns-in-Ok-clause-says : goal.returns-in-Ok-clause-says
+returns-in-Ok-clause-says g c = λ tells. all-said (loaded g c) tells c.replay.result c.replay.ensures.refused
+
+pub returns-in-Ok-clause-moments_ok : goal.returns-in-Ok-clause-moments_ok
+returns-in-Ok-clause-moments_ok g c = λ tells. moments-ok (loaded g c) tells c.replay.result c.replay.ensures.journal
+
+pub returns-in-Ok-clause-moments_err : goal.returns-in-Ok-clause-moments_err
+returns-in-Ok-clause-moments_err g c = λ tells. moments-err (loaded g c) tells c.replay.result c.replay.ensures.disk
+
+pub returns-in-Err-clause-says : goal.returns-in-Err-clause-says
+returns-in-Err-clause-says g c = λ tells.
+    let area = new_area c.args.limit in
+    let seen : List ℕ = g.D.Disk.seen c.args.disk in
+    let same : c.as_bytes.result.now ≡ c.args.host = c.as_bytes.ensures.value ∙ c.as_str.ensures ∙ c.text.ensures.text in
+    subst (IsSaidBy (loading c.args.host area seen)) (sym c.from.ensures)
+    (said-opening c.args.host area seen c.in-Err.fault (subst (λ (label : List ℕ). openings.IsSaidBy (opening label area seen) c.in-Err.fault) same (c.in-Err.ensures.says tells)))
+
+pub returns-in-Err-clause-moments_err : goal.returns-in-Err-clause-moments_err
+returns-in-Err-clause-moments_err g c = λ tells.
+    let d = g.D.Disk in
+    let area = new_area c.args.limit in
+    let same : c.as_bytes.result.now ≡ c.args.host = c.as_bytes.ensures.value ∙ c.as_str.ensures ∙ c.text.ensures.text in
+    wider d c.args.host area c.args.disk c.in-Err.disk
+    (subst (λ (label : List ℕ). LeavesOnly d.moment d.left_since c.args.disk c.in-Err.disk (λ x. d.may_leave c.args.disk x ⊎ StaysAsItOpens label area (d.seen c.args.disk) x)) same (c.in-Err.ensures.moments_err tells))

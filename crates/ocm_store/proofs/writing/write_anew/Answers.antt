@@ -1,0 +1,55 @@
+use Rattle.std.proofs.Common.{◌≡◌, ap}
+use Rattle.std.proofs.lemmas.Result.{IfErr-weaker, on_ok_weaker}
+use Rattle.std.specs.Prelude.{Err}
+use Rattle.ocm_history.specs.Histories.{home_of}
+use Rattle.ocm_journal.specs.Journals.{StandsFor, area_of, form_of}
+use Rattle.ocm_store.specs.Faults.{IsNoDiskFault}
+use Rattle.ocm_store.specs.Stores.{IsWritten}
+use Rattle.ocm_store.proofs.Journaling.{renew-fits, renewed, renewed-moments, still-written, unchanged-moments}
+use Rattle.ocm_store.proofs.writing.write_anew.Goals as goal
+
+pub returns-in-Ok-clause-written : goal.returns-in-Ok-clause-written
+returns-in-Ok-clause-written G c = λ tells g ask form draft change is w.
+    let host = home_of c.args.history.now in
+    let new = c.put_in_place-written.new.journal in
+    on_ok_weaker c.put_in_place-written.result
+    (λ p. renewed G.D.Disk c.args.history.now g ask c.args.planned.now form draft change new c.in-Ok.records (c.in-Ok.ensures.lean g ask form draft change is) p.0 p.1)
+    (c.put_in_place-written.ensures.written tells host w.records w.holds)
+
+pub returns-in-Ok-clause-unwritten : goal.returns-in-Ok-clause-unwritten
+returns-in-Ok-clause-unwritten G c = λ tells g w.
+    let host = home_of c.args.history.now in
+    let old = c.args.journal.now in
+    let new = c.put_in_place-written.new.journal in
+    IfErr-weaker c.put_in_place-written.result
+    (λ fault. IsNoDiskFault fault → (form_of new ≡ form_of old) × StandsFor G.D.Disk host w.records new)
+    (λ fault. IsNoDiskFault fault → IsWritten G.D.Disk host g new)
+    (λ fault p none. let q = p none in still-written G.D.Disk host g old new w q.0 q.1)
+    (c.put_in_place-written.ensures.unwritten tells host w.records w.holds)
+
+pub returns-in-Ok-clause-any_moment : goal.returns-in-Ok-clause-any_moment
+returns-in-Ok-clause-any_moment G c = λ tells g ask form draft change is w.
+    let host = home_of c.args.history.now in
+    renewed-moments G.D.Disk c.args.history.now g ask c.args.planned.now form draft change c.args.journal.now c.put_in_place-written.new.journal c.in-Ok.records (c.in-Ok.ensures.lean g ask form draft change is) w
+    (c.put_in_place-written.ensures.any_moment tells host w.records w.holds)
+
+pub returns-in-Ok-clause-not_full : goal.returns-in-Ok-clause-not_full
+returns-in-Ok-clause-not_full G c = λ g ask form draft change is fits full.
+    renew-fits G.D.Disk c.args.history.now g ask c.args.planned.now form draft change (area_of c.args.journal.now) c.in-Ok.records (c.in-Ok.ensures.lean g ask form draft change is) fits (c.put_in_place-written.ensures.full full)
+
+pub returns-in-Err-TooLong-clause-any_moment : goal.returns-in-Err-TooLong-clause-any_moment
+returns-in-Err-TooLong-clause-any_moment G c = λ tells g ask form draft change is w.
+    unchanged-moments G.D.Disk c.args.history.now g ask c.args.planned.now form draft change c.args.journal.now G.met.D.Disk.only_now w
+
+pub returns-in-Err-NoMemory-clause-any_moment : goal.returns-in-Err-NoMemory-clause-any_moment
+returns-in-Err-NoMemory-clause-any_moment G c = λ tells g ask form draft change is w.
+    unchanged-moments G.D.Disk c.args.history.now g ask c.args.planned.now form draft change c.args.journal.now G.met.D.Disk.only_now w
+
+pub returns-in-Err-TooLong-clause-not_full : goal.returns-in-Err-TooLong-clause-not_full
+returns-in-Err-TooLong-clause-not_full G c = λ g ask form draft change is fits full. c.in-Err-TooLong.ensures.not_full g ask form draft change is (ap Err c.in-Err-TooLong.field-0-is)
+
+pub returns-in-Err-TooLong-clause-not_made : goal.returns-in-Err-TooLong-clause-not_made
+returns-in-Err-TooLong-clause-not_made G c = λ none left. (λ b. b, λ p. p)
+
+pub returns-in-Err-NoMemory-clause-not_made : goal.returns-in-Err-NoMemory-clause-not_made
+returns-in-Err-NoMemory-clause-not_made G c = λ none left. (λ b. b, λ p. p)

@@ -1,0 +1,5 @@
+pub mod Opening
+pub mod Stores
+pub mod Acts
+pub mod Faults
+pub mod Fitting

@@ -1,0 +1,191 @@
+//! How a store answers an ask: it is planned, then written, and then made.
+ghost use Rattle.std.specs.Prelude.{◌≡◌, ◌<◌, ◌≤◌, ◌+◌, ◌∷◌, ◌++◌, ℕ, List, None, length, true, false, Some, IsTrue, IfOk, OnOk};
+ghost use Rattle.ocm_base.specs.Outside.{raised};
+ghost use Rattle.ocm_disk.specs.Disk.{LeavesOnly};
+ghost use Rattle.ocm_entry.specs.declared.asks.Ask.{Ask};
+ghost use Rattle.ocm_entry.specs.declared.entries.Entry.{Entry};
+ghost use Rattle.ocm_entry.specs.Proper.{is_proper};
+ghost use Rattle.ocm_core.specs.Standing.{IsPlanned};
+ghost use Rattle.ocm_journal.specs.Journals as journals;
+ghost use Rattle.ocm_plan.specs.Plans.{Plans};
+ghost use Rattle.ocm_rules.specs.History.{is_failure};
+ghost use Rattle.ocm_law_sessions.specs.Sessions.{count_of, would_change};
+ghost use Rattle.ocm_tables.specs.Changes.{is_kept};
+ghost use Rattle.ocm_store.specs.Faults.{count_told, reply_told};
+
+use crate::stores::Store;
+use crate::terms::Terms;
+use crate::write_faults::WriteFault;
+use crate::writing::write_change;
+use ocm_base::NoMemory;
+use ocm_core::Planned;
+use ocm_disk::Disk;
+use ocm_entry::{Ask, Object, Reply};
+use ocm_history::{Draft, let_go};
+
+impl<D: Disk> Object for Store<D> {
+    ghost use Rattle.ocm_store.specs.Acts.{Spends, SpendsNone, StandsLegally};
+    ghost use Rattle.ocm_store.specs.Fitting.{session-fits};
+    ghost use Rattle.ocm_store.specs.Stores.{IsLegalUnder, LeavesNext, Stands, disk_of, host_of, terms_of};
+
+    type Terms = Terms;
+
+    ghost terms = { λ store. terms_of store };
+
+    ghost stands = { λ store k h. Stands ⟦<D as Disk>⟧ store k h };
+
+    ghost legal = { λ terms k h. IsLegalUnder terms k h };
+
+    ghost fits = { λ terms k h ask reply legal. session-fits terms.host terms.area k h ask reply legal };
+
+    fn act(&mut self, ask: Ask) -> Reply
+        requires proper { IsTrue (is_proper ask) }
+        ensures terms { terms_of self.new ≡ terms_of self.old }
+        ensures stands { (k h : List Entry) → Stands ⟦<D as Disk>⟧ self.old k h → IsLegalUnder (terms_of self.old) k h → Stands ⟦<D as Disk>⟧ self.new k (record { ask = ask; reply = result } ∷ h) }
+        ensures legal { (k h : List Entry) → Stands ⟦<D as Disk>⟧ self.old k h → IsLegalUnder (terms_of self.old) k h → IsLegalUnder (terms_of self.old) k (record { ask = ask; reply = result } ∷ h) }
+
+        // A fault of the disk is told only where the disk's count of faults rose, to the count that is told.
+        ensures cause { (count : ℕ) → result ≡ Reply.DiskFault count → (count ≡ D.count (disk_of self.new)) × (D.count (disk_of self.new) ≡ raised (D.count (disk_of self.old))) }
+        ensures no_cause { count_of result ≡ None → D.count (disk_of self.new) ≡ D.count (disk_of self.old) }
+
+        // A crash at any moment of the call leaves what opens to a list that may follow, while this ask is in flight.
+        ensures any_moment { D.tells → (k h : List Entry) → StandsLegally ⟦<D as Disk>⟧ self.old k h
+            → LeavesOnly D.moment D.left_since (disk_of self.old) (disk_of self.new) (LeavesNext (host_of self.old) k h (Some ask)) }
+
+        // What changes nothing leaves the disk alone. What is made makes four device calls, and what is not makes none, unless
+        // the disk failed. Where fewer are left it is not made, and where four pass the disk does not fail.
+        ensures idle { (k h : List Entry) → StandsLegally ⟦<D as Disk>⟧ self.old k h → would_change (host_of self.old) (h ++ k) ask ≡ false → disk_of self.new ≡ disk_of self.old }
+        ensures made { (k h : List Entry) → StandsLegally ⟦<D as Disk>⟧ self.old k h → would_change (host_of self.old) (h ++ k) ask ≡ true → is_failure result ≡ false → Spends ⟦<D as Disk>⟧ 4 (disk_of self.old) (disk_of self.new) }
+        ensures not_made { is_failure result ≡ true → count_of result ≡ None → SpendsNone ⟦<D as Disk>⟧ (disk_of self.old) (disk_of self.new) }
+        ensures fewer { (k h : List Entry) (left : ℕ) → StandsLegally ⟦<D as Disk>⟧ self.old k h → would_change (host_of self.old) (h ++ k) ask ≡ true → left < 4
+            → D.burnt (disk_of self.old) left → is_failure result ≡ true }
+        ensures passes { (left : ℕ) → D.passes (disk_of self.old) (left + 4) → count_of result ≡ None }
+    {
+        let reply = self.reply(&ask);
+        drop(ask);
+        reply
+    }
+}
+
+impl<D: Disk> Store<D> {
+    ghost use Rattle.ocm_store.specs.Acts.{Acts, SpendsNone};
+    ghost use Rattle.ocm_history.specs.Changes.{IsChange};
+    ghost use Rattle.ocm_history.specs.Histories.{HasPlace, IsOf, SameMemory};
+    ghost use Rattle.ocm_store.specs.Stores.{disk_of, fault_of};
+
+    /// Answers an ask.
+    fn reply(&mut self, ask: &Ask) -> Reply
+        requires { IsTrue (is_proper ask.now) }
+        ensures { Acts ⟦<D as Disk>⟧ self.old self.new ask.now result }
+    {
+        match self.history.core.answer(ask) {
+            Ok(planned) => self.answer(ask, planned),
+            Err(NoMemory) => Reply::NoMemory,
+        }
+    }
+
+    /// Gives the reply that was planned, where nothing changes or the change is made.
+    fn answer(&mut self, ask: &Ask, planned: Planned) -> Reply
+        requires proper { IsTrue (is_proper ask.now) }
+        requires plans { Plans self.old.history.core.state ask.now planned }
+        ensures { Acts ⟦<D as Disk>⟧ self.old self.new ask.now result }
+    {
+        if !planned.changes() {
+            return planned.into_reply();
+        }
+        match self.fault {
+            Some(count) => {
+                let_go(planned);
+                Reply::Stopped { count }
+            }
+            None => self.change(ask, planned),
+        }
+    }
+
+    /// Makes a change, where it can be written.
+    fn change(&mut self, ask: &Ask, planned: Planned) -> Reply
+        requires proper { IsTrue (is_proper ask.now) }
+        requires plans { Plans self.old.history.core.state ask.now planned }
+        requires changes { is_kept planned.change ≡ true }
+        requires goes { fault_of self.old ≡ None }
+        ensures { Acts ⟦<D as Disk>⟧ self.old self.new ask.now result }
+    {
+        match self.prepare(ask, &planned) {
+            Ok(draft) => self.write_down(planned, draft),
+            Err(NoMemory) => {
+                let_go(planned);
+                Reply::NoMemory
+            }
+        }
+    }
+
+    /// Takes all the memory that a change needs but for writing the journal anew, and drafts it.
+    fn prepare(&mut self, ask: &Ask, planned: &Planned) -> Result<Draft, NoMemory>
+        requires proper { IsTrue (is_proper ask.now) }
+        requires plans { Plans self.old.history.core.state ask.now planned.now }
+        requires changes { is_kept planned.now.change ≡ true }
+        requires goes { fault_of self.old ≡ None }
+        ensures place { OnOk result (HasPlace self.new.history planned.now) }
+        ensures change { IfOk result (λ draft. (g : List Entry) → IsOf self.new.history g → IsChange self.new.history g ask.now planned.now (journals.form_of self.new.journal) draft) }
+        ensures room { IfOk result (λ draft. journals.HasRoom ⟦<D as Disk>⟧ self.new.journal (length draft.written)) }
+        ensures length { IfOk result (λ draft. (1 ≤ length draft.written) × (length draft.written ≤ 2097152)) }
+        ensures plans { Plans self.new.history.core.state ask.now planned.now }
+        ensures same { SameMemory self.old.history self.new.history }
+        ensures fault { fault_of self.new ≡ None }
+        ensures shape { journals.SameShape self.old.journal self.new.journal }
+        ensures journal { D.tells → (label : List ℕ) (records : List (List ℕ)) → journals.StandsFor ⟦<D as Disk>⟧ label records self.old.journal → journals.StandsFor ⟦<D as Disk>⟧ label records self.new.journal }
+        ensures any_moment { D.tells → LeavesOnly D.moment D.left_since (disk_of self.old) (disk_of self.new) (D.may_leave (disk_of self.old)) }
+        ensures count { D.count (disk_of self.new) ≡ D.count (disk_of self.old) }
+        ensures spends { SpendsNone ⟦<D as Disk>⟧ (disk_of self.old) (disk_of self.new) }
+    {
+        let draft = self.history.prepare(self.journal.form(), ask, planned)?;
+        self.journal.room(draft.written.len() as u64)?;
+        Ok(draft)
+    }
+
+    /// Writes a change that was drafted, and makes it.
+    fn write_down(&mut self, planned: Planned, draft: Draft) -> Reply
+        requires planned { IsPlanned self.old.history.core.state planned }
+        requires place { HasPlace self.old.history planned }
+        requires room { journals.HasRoom ⟦<D as Disk>⟧ self.old.journal (length draft.written) }
+        requires length { (1 ≤ length draft.written) × (length draft.written ≤ 2097152) }
+        requires goes { fault_of self.old ≡ None }
+        ensures { (ask : Ask) → ((g : List Entry) → IsOf self.old.history g → IsChange self.old.history g ask planned (journals.form_of self.old.journal) draft) → Acts ⟦<D as Disk>⟧ self.old self.new ask result }
+    {
+        let area = self.journal.area();
+        let size = self.history.size_with(area, &planned, &draft);
+        if size.saturating_add(draft.newest.rest_size()) > area {
+            let_go(planned);
+            return Reply::JournalFull;
+        }
+        match write_change(&mut self.journal, &self.history, &planned, &draft) {
+            Ok(()) => self.history.make(planned, draft.newest, size),
+            Err(fault) => {
+                self.fault = told_count(fault);
+                let_go(planned);
+                told_reply(fault)
+            }
+        }
+    }
+}
+
+/// The count of the fault of the disk that is told. None where the disk did not fail.
+fn told_count(fault: WriteFault) -> Option<u64>
+    ensures { result ≡ count_told fault }
+{
+    match fault {
+        WriteFault::DiskFault(count) => Some(count),
+        WriteFault::Full | WriteFault::NoMemory => None,
+    }
+}
+
+/// What is told of a change that was not written.
+fn told_reply(fault: WriteFault) -> Reply
+    ensures { result ≡ reply_told fault }
+{
+    match fault {
+        WriteFault::Full => Reply::JournalFull,
+        WriteFault::DiskFault(count) => Reply::DiskFault { count },
+        WriteFault::NoMemory => Reply::NoMemory,
+    }
+}

@@ -1,0 +1,25 @@
+//! What follows from what a store stands for, each law as the contract of a function that does nothing.
+ghost use Rattle.std.specs.Prelude.{◌≡◌, [], ℕ, List, Ok};
+ghost use Rattle.ocm_base.specs.Hex.{AreBytes};
+ghost use Rattle.ocm_entry.specs.declared.entries.Entry.{Entry};
+ghost use Rattle.ocm_rules.specs.History.{IsLegal, kept};
+ghost use Rattle.ocm_law_sessions.specs.Sessions.{IsSession};
+ghost use Rattle.ocm_store.specs.Opening.{OpensTo, loading};
+
+/// A disk opens to one list at most.
+pub fn a_disk_opens_to_one_list()
+    ensures { (host : List ℕ) (area : ℕ) (k other : List Entry) (bytes : List ℕ) → OpensTo host area k bytes → OpensTo host area other bytes → k ≡ other }
+{}
+
+/// A disk is loaded exactly where its bytes open to a list.
+pub fn what_opens_is_loaded()
+    ensures loaded { (host : List ℕ) (area : ℕ) (k : List Entry) (bytes : List ℕ) → OpensTo host area k bytes → loading host area bytes ≡ Ok k }
+    ensures opens { (host : List ℕ) (area : ℕ) (k : List Entry) (bytes : List ℕ) → AreBytes bytes → loading host area bytes ≡ Ok k → OpensTo host area k bytes }
+{}
+
+/// What a disk opens to is legal, is kept whole, and begins a session.
+pub fn what_opens_begins_a_session()
+    ensures legal { (host : List ℕ) (area : ℕ) (k : List Entry) (bytes : List ℕ) → OpensTo host area k bytes → IsLegal host k }
+    ensures kept { (host : List ℕ) (area : ℕ) (k : List Entry) (bytes : List ℕ) → OpensTo host area k bytes → kept host k ≡ k }
+    ensures session { (host : List ℕ) (area size : ℕ) (k : List Entry) (bytes : List ℕ) → OpensTo host area k bytes → IsSession host size k [] }
+{}

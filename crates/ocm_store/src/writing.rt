@@ -1,0 +1,131 @@
+//! How a change is written into a journal.
+ghost use Rattle.std.specs.Prelude.{◌≡◌, ◌<◌, ◌≤◌, ◌+◌, ◌∷◌, ℕ, List, length, false, IsErr, IsErrOf, IfErr, OnOk};
+ghost use Rattle.ocm_disk.specs.Disk.{LeavesOnly};
+ghost use Rattle.ocm_entry.specs.declared.asks.Ask.{Ask};
+ghost use Rattle.ocm_entry.specs.declared.entries.Entry.{Entry};
+ghost use Rattle.ocm_core.specs.Standing.{IsPlanned};
+ghost use Rattle.ocm_image.specs.Layout.{AreRecords, blocks_size};
+ghost use Rattle.ocm_journal.specs.Journals.{HasRoom, IsOldOrNew, StandsFor, area_of, disk_of, form_of};
+ghost use Rattle.ocm_law_sessions.specs.Sessions.{heard};
+ghost use Rattle.ocm_history.specs.declared.drafts.Draft.{Draft};
+ghost use Rattle.ocm_history.specs.Changes.{FitsInto, IsChange};
+ghost use Rattle.ocm_store.specs.Acts.{IsWithOrWithout, Spends, SpendsNone};
+ghost use Rattle.ocm_store.specs.Faults.{HasCount, IsNoDiskFault, stops};
+ghost use Rattle.ocm_history.specs.Histories.{home_of};
+ghost use Rattle.ocm_store.specs.Stores.{IsWritten};
+
+use crate::write_faults::WriteFault;
+use ocm_base::{Bytes, List};
+use ocm_core::Planned;
+use ocm_disk::Disk;
+use ocm_history::{Draft, History, KeptRecord, RecordFault};
+use ocm_journal::{AppendFault, Journal, RenewFault};
+
+/// Writes a change into the journal that has the history before it: behind its records or, where it would pass the end of the
+/// live area, by writing anew all that later replies can depend on. Room was taken for its record.
+pub(crate) fn write_change<D: Disk>(
+    journal: &mut Journal<D>,
+    history: &History,
+    planned: &Planned,
+    draft: &Draft,
+) -> Result<(), WriteFault>
+    requires goes { journal.old.stopped ≡ false }
+    requires room { HasRoom ⟦<D as Disk>⟧ journal.old (length draft.now.written) }
+    requires length { (1 ≤ length draft.now.written) × (length draft.now.written ≤ 2097152) }
+    requires planned { IsPlanned history.now.core.state planned.now }
+    requires few { length history.now.records.items < 18446744073709551615 }
+    ensures written { D.tells → (g : List Entry) (ask : Ask) → IsChange history.now g ask planned.now (form_of journal.old) draft.now
+        → let host = home_of history.now in IsWritten ⟦<D as Disk>⟧ host g journal.old → OnOk result (IsWritten ⟦<D as Disk>⟧ host (heard host g ask ∷ g) journal.new) }
+
+    // Where it answers that it found no memory, or that the change does not fit, the journal has what it had.
+    ensures unwritten { D.tells → (g : List Entry) → let host = home_of history.now in IsWritten ⟦<D as Disk>⟧ host g journal.old → IfErr result (λ fault. IsNoDiskFault fault → IsWritten ⟦<D as Disk>⟧ host g journal.new) }
+
+    // A crash at any moment of the call leaves the history with the change or without it.
+    ensures any_moment { D.tells → (g : List Entry) (ask : Ask) → IsChange history.now g ask planned.now (form_of journal.old) draft.now
+        → let host = home_of history.now in IsWritten ⟦<D as Disk>⟧ host g journal.old → LeavesOnly D.moment D.left_since (disk_of journal.old) (disk_of journal.new) (IsWithOrWithout host g ask) }
+
+    // A change that fits is not answered `Full`.
+    ensures not_full { (g : List Entry) (ask : Ask) → IsChange history.now g ask planned.now (form_of journal.old) draft.now
+        → FitsInto (area_of journal.old) history.now g ask → ¬ IsErrOf result WriteFault.Full }
+    ensures fault { IfErr result (HasCount (D.count (disk_of journal.old)) (D.count (disk_of journal.new))) }
+    ensures count { OnOk result (D.count (disk_of journal.new) ≡ D.count (disk_of journal.old)) }
+    ensures stopped { journal.new.stopped ≡ stops result }
+    ensures area { area_of journal.new ≡ area_of journal.old }
+
+    // What is written makes four device calls, and what is not makes none, unless the disk failed.
+    ensures made { OnOk result (Spends ⟦<D as Disk>⟧ 4 (disk_of journal.old) (disk_of journal.new)) }
+    ensures not_made { IfErr result (λ fault. IsNoDiskFault fault → SpendsNone ⟦<D as Disk>⟧ (disk_of journal.old) (disk_of journal.new)) }
+    ensures fewer { (left : ℕ) → left < 4 → D.burnt (disk_of journal.old) left → IsErr result }
+    ensures passes { (calls : ℕ) → D.passes (disk_of journal.old) (calls + 4) → IfErr result IsNoDiskFault }
+{
+    match journal.append(draft.written.as_slice()) {
+        Ok(()) => Ok(()),
+        Err(AppendFault::DiskFault(count)) => Err(WriteFault::DiskFault(count)),
+        Err(AppendFault::Full) => write_anew(journal, history, planned, &draft.newest),
+    }
+}
+
+/// Writes anew all that later replies can depend on, with a change of which this is kept.
+fn write_anew<D: Disk>(
+    journal: &mut Journal<D>,
+    history: &History,
+    planned: &Planned,
+    newest: &KeptRecord,
+) -> Result<(), WriteFault>
+    requires goes { journal.old.stopped ≡ false }
+    requires planned { IsPlanned history.now.core.state planned.now }
+    requires few { length history.now.records.items < 18446744073709551615 }
+    ensures written { D.tells → (g : List Entry) (ask : Ask) (form : ℕ) (draft : Draft) → IsChange history.now g ask planned.now form draft → newest.now ≡ draft.newest
+        → let host = home_of history.now in IsWritten ⟦<D as Disk>⟧ host g journal.old → OnOk result (IsWritten ⟦<D as Disk>⟧ host (heard host g ask ∷ g) journal.new) }
+    ensures unwritten { D.tells → (g : List Entry) → let host = home_of history.now in IsWritten ⟦<D as Disk>⟧ host g journal.old → IfErr result (λ fault. IsNoDiskFault fault → IsWritten ⟦<D as Disk>⟧ host g journal.new) }
+    ensures any_moment { D.tells → (g : List Entry) (ask : Ask) (form : ℕ) (draft : Draft) → IsChange history.now g ask planned.now form draft → newest.now ≡ draft.newest
+        → let host = home_of history.now in IsWritten ⟦<D as Disk>⟧ host g journal.old → LeavesOnly D.moment D.left_since (disk_of journal.old) (disk_of journal.new) (IsWithOrWithout host g ask) }
+    ensures not_full { (g : List Entry) (ask : Ask) (form : ℕ) (draft : Draft) → IsChange history.now g ask planned.now form draft → newest.now ≡ draft.newest
+        → FitsInto (area_of journal.old) history.now g ask → ¬ IsErrOf result WriteFault.Full }
+    ensures fault { IfErr result (HasCount (D.count (disk_of journal.old)) (D.count (disk_of journal.new))) }
+    ensures count { OnOk result (D.count (disk_of journal.new) ≡ D.count (disk_of journal.old)) }
+    ensures stopped { journal.new.stopped ≡ stops result }
+    ensures area { area_of journal.new ≡ area_of journal.old }
+    ensures made { OnOk result (Spends ⟦<D as Disk>⟧ 4 (disk_of journal.old) (disk_of journal.new)) }
+    ensures not_made { IfErr result (λ fault. IsNoDiskFault fault → SpendsNone ⟦<D as Disk>⟧ (disk_of journal.old) (disk_of journal.new)) }
+    ensures fewer { (left : ℕ) → left < 4 → D.burnt (disk_of journal.old) left → IsErr result }
+    ensures passes { (calls : ℕ) → D.passes (disk_of journal.old) (calls + 4) → IfErr result IsNoDiskFault }
+{
+    match history.lean_records(planned, newest) {
+        Ok(records) => {
+            let written = put_in_place(journal, &records);
+            drop(records);
+            written
+        }
+        Err(RecordFault::TooLong) => Err(WriteFault::Full),
+        Err(RecordFault::NoMemory) => Err(WriteFault::NoMemory),
+    }
+}
+
+/// Puts these records in place of all that the journal holds.
+fn put_in_place<D: Disk>(journal: &mut Journal<D>, records: &List<Bytes>) -> Result<(), WriteFault>
+    requires sizes { AreRecords records.now }
+    requires goes { journal.old.stopped ≡ false }
+    ensures written { D.tells → (label : List ℕ) (before : List (List ℕ)) → StandsFor ⟦<D as Disk>⟧ label before journal.old
+        → OnOk result ((form_of journal.new ≡ 2) × StandsFor ⟦<D as Disk>⟧ label records.now journal.new) }
+    ensures unwritten { D.tells → (label : List ℕ) (before : List (List ℕ)) → StandsFor ⟦<D as Disk>⟧ label before journal.old
+        → IfErr result (λ fault. IsNoDiskFault fault → (form_of journal.new ≡ form_of journal.old) × StandsFor ⟦<D as Disk>⟧ label before journal.new) }
+    ensures any_moment { D.tells → (label : List ℕ) (before : List (List ℕ)) → StandsFor ⟦<D as Disk>⟧ label before journal.old
+        → LeavesOnly D.moment D.left_since (disk_of journal.old) (disk_of journal.new) (IsOldOrNew label (area_of journal.old) (form_of journal.old) before records.now) }
+    ensures full { IsErrOf result WriteFault.Full → area_of journal.old < 2 + blocks_size records.now }
+    ensures fault { IfErr result (HasCount (D.count (disk_of journal.old)) (D.count (disk_of journal.new))) }
+    ensures count { OnOk result (D.count (disk_of journal.new) ≡ D.count (disk_of journal.old)) }
+    ensures stopped { journal.new.stopped ≡ stops result }
+    ensures area { area_of journal.new ≡ area_of journal.old }
+    ensures made { OnOk result (Spends ⟦<D as Disk>⟧ 4 (disk_of journal.old) (disk_of journal.new)) }
+    ensures not_made { IfErr result (λ fault. IsNoDiskFault fault → SpendsNone ⟦<D as Disk>⟧ (disk_of journal.old) (disk_of journal.new)) }
+    ensures fewer { (left : ℕ) → left < 4 → D.burnt (disk_of journal.old) left → IsErr result }
+    ensures passes { (calls : ℕ) → D.passes (disk_of journal.old) (calls + 4) → IfErr result IsNoDiskFault }
+{
+    match journal.renew(records) {
+        Ok(()) => Ok(()),
+        Err(RenewFault::Full) => Err(WriteFault::Full),
+        Err(RenewFault::DiskFault(count)) => Err(WriteFault::DiskFault(count)),
+        Err(RenewFault::NoMemory) => Err(WriteFault::NoMemory),
+    }
+}
