@@ -39,21 +39,25 @@ use Rattle.ocm_store.specs.Faults.{HasCount, IsNoDiskFault, count_told, reply_to
 use Rattle.ocm_store.specs.Stores.{IsLegalUnder, IsWritten, LeavesNext, Stands, area_of, disk_of, fault_of, host_of, terms_of}
 
 -- what a crash leaves before a call it leaves after one that changed nothing
-leaves-idle : (host : List ℕ) (k h : List Entry) (e : Entry) (c : List ℕ) → count_of e.reply ≡ None → kept host (e ∷ (h ++ k)) ≡ kept host (h ++ k) → LeavesNext host k h None c → LeavesNext host k (e ∷ h) None c
-leaves-idle host k h e c counts same left = (left.0, left.1, next-idle host k h e left.0 counts same left.2)
+leaves-idle : (terms : Terms) (k h : List Entry) (e : Entry) (c : List ℕ) → count_of e.reply ≡ None → kept terms.host (e ∷ (h ++ k)) ≡ kept terms.host (h ++ k) → LeavesNext terms k h None c → LeavesNext terms k (e ∷ h) None c
+leaves-idle terms k h e c counts same left = (left.0, left.1, next-idle terms.host k h e left.0 counts same left.2)
 
 -- and within it
-leaves-in_flight : (host : List ℕ) (k h : List Entry) (ask : Ask) (c : List ℕ) → LeavesNext host k h None c → LeavesNext host k h (Some ask) c
-leaves-in_flight host k h ask c left = (left.0, left.1, next-in_flight host k h ask left.0 left.2)
+leaves-in_flight : (terms : Terms) (k h : List Entry) (ask : Ask) (c : List ℕ) → LeavesNext terms k h None c → LeavesNext terms k h (Some ask) c
+leaves-in_flight terms k h ask c left = (left.0, left.1, next-in_flight terms.host k h ask left.0 left.2)
 
 -- with a change or without it, bytes open to what may follow while it is in flight
-either-next : (host : List ℕ) (k h : List Entry) (ask : Ask) (c : List ℕ) → fault_in h ≡ None → would_change host (h ++ k) ask ≡ true → IsWithOrWithout host (h ++ k) ask c → LeavesNext host k h (Some ask) c
-either-next host k h ask c fault changes (next, image, legal, inl without) = (next, image, (legal, inl without))
-either-next host k h ask c fault changes (next, image, legal, inr with_it) = (next, image, next-changed host k h ask next fault changes legal with_it)
+either-next : (terms : Terms) (k h : List Entry) (ask : Ask) (c : List ℕ) → fault_in h ≡ None → would_change terms.host (h ++ k) ask ≡ true → IsWithOrWithout terms.host terms.area (h ++ k) ask c → LeavesNext terms k h (Some ask) c
+either-next terms k h ask c fault changes (next, image, legal, inl without) = (next, image, (legal, inl without))
+either-next terms k h ask c fault changes (next, image, legal, inr with_it) = (next, image, next-changed terms.host k h ask next fault changes legal with_it)
 
 -- a reply that tells no count tells no fault of the disk
 no_fault : (reply : Reply) (n : ℕ) → count_of reply ≡ None → reply ≡ replies.DiskFault n → ⊥
 no_fault reply n counts is = let some : Some n ≡ None = sym (ap count_of is) ∙ counts in cc
+
+-- the terms of this host, with areas of this size
+abbrev terms-with : List ℕ → ℕ → Terms
+terms-with host size = record { host = host; area = size }
 
 same-home : (old new : History) → SameMemory old new → home_of new ≡ home_of old
 same-home old new same = ap (λ (st : State). st.host) same.lists
@@ -70,7 +74,7 @@ module _ {D : Type 0} (disk : Ghosts D) where
   -- a crash within a call leaves the history with a change or without it
   abbrev LeavesEither : Store D disk → Store D disk → Ask → Type 0
   LeavesEither old new ask = disk.tells → (g : List Entry) → IsOf old.history g → IsWritten disk (host_of old) g old.journal
-      → LeavesOnly disk.moment disk.left_since (disk_of old) (disk_of new) (IsWithOrWithout (host_of old) g ask)
+      → LeavesOnly disk.moment disk.left_since (disk_of old) (disk_of new) (IsWithOrWithout (host_of old) (area_of old) g ask)
 
   -- the journal goes on to stand for what it stood for
   abbrev StandsOn : Store D disk → Store D disk → Type 0
@@ -82,12 +86,12 @@ module _ {D : Type 0} (disk : Ghosts D) where
 
   -- ---- what a written journal leaves
 
-  written-opens : (host : List ℕ) (k h : List Entry) (journal : Journal D disk) → IsWritten disk host (h ++ k) journal → LeavesNext host k h None (disk.seen (journals.disk_of journal))
+  written-opens : (host : List ℕ) (k h : List Entry) (journal : Journal D disk) → IsWritten disk host (h ++ k) journal → LeavesNext (terms-with host (journals.area_of journal)) k h None (disk.seen (journals.disk_of journal))
   written-opens host k h journal w =
-      (w.list, (journal.area, journal.form, w.records, w.holds.image, w.opens), (answered-legal host w.list (opened-answered host journal.form w.records w.list w.opens), inl w.same))
+      (w.list, (journal.form, w.records, w.holds.image, w.opens), (answered-legal host w.list (opened-answered host journal.form w.records w.list w.opens), inl w.same))
 
-  written-leaves : (host : List ℕ) (k h : List Entry) (journal : Journal D disk) → IsWritten disk host (h ++ k) journal → (c : List ℕ) → disk.may_leave (journals.disk_of journal) c → LeavesNext host k h None c
-  written-leaves host k h journal w c left = subst (LeavesNext host k h None) (sym (w.holds.durable c left)) (written-opens host k h journal w)
+  written-leaves : (host : List ℕ) (k h : List Entry) (journal : Journal D disk) → IsWritten disk host (h ++ k) journal → (c : List ℕ) → disk.may_leave (journals.disk_of journal) c → LeavesNext (terms-with host (journals.area_of journal)) k h None c
+  written-leaves host k h journal w c left = subst (LeavesNext (terms-with host (journals.area_of journal)) k h None) (sym (w.holds.durable c left)) (written-opens host k h journal w)
 
   -- the same journal for a history with the same lean list
   written-same : (host : List ℕ) (g other : List Entry) (old new : Journal D disk) → lean host g ≡ lean host other → journals.form_of new ≡ journals.form_of old
@@ -110,11 +114,8 @@ module _ {D : Type 0} (disk : Ghosts D) where
 
   -- ---- what a store stands for after a call
 
-  same-terms : (old new : Store D disk) → host_of new ≡ host_of old → area_of new ≡ area_of old → terms_of new ≡ terms_of old
-  same-terms old new home area = ap (λ host. terms host (area_of new)) home ∙ ap (terms (host_of old)) area
-    where
-      terms : List ℕ → ℕ → Terms
-      terms host size = record { host = host; area = size }
+  pub same-terms : (old new : Store D disk) → host_of new ≡ host_of old → area_of new ≡ area_of old → terms_of new ≡ terms_of old
+  same-terms old new home area = ap (λ host. terms-with host (area_of new)) home ∙ ap (terms-with (host_of old)) area
 
   -- that is not stopped: what its memory and its journal have
   stands-written : (store : Store D disk) (host : List ℕ) (k h : List Entry) → fault_in h ≡ None → fault_of store ≡ None → host_of store ≡ host → IsOf store.history (h ++ k)
@@ -124,8 +125,8 @@ module _ {D : Type 0} (disk : Ghosts D) where
     fault = fine ∙ sym goes;
     counted = none-counted (fault_of store) goes;
     written = λ tells so. subst (λ it. IsWritten disk it (h ++ k) store.journal) (sym home) (written tells);
-    reads = λ tells. subst (λ it. LeavesNext it k h None (disk.seen (disk_of store))) (sym home) (written-opens host k h store.journal (written tells));
-    leaves = λ tells c left. subst (λ it. LeavesNext it k h None c) (sym home) (written-leaves host k h store.journal (written tells) c left);
+    reads = λ tells. subst (λ it. LeavesNext (terms-with it (area_of store)) k h None (disk.seen (disk_of store))) (sym home) (written-opens host k h store.journal (written tells));
+    leaves = λ tells c left. subst (λ it. LeavesNext (terms-with it (area_of store)) k h None c) (sym home) (written-leaves host k h store.journal (written tells) c left);
   }
     where
       none-counted : (o : Option ℕ) → o ≡ None → IfSome o (λ n. (n ≡ disk.count (disk_of store)) × (0 < n))
@@ -136,23 +137,23 @@ module _ {D : Type 0} (disk : Ghosts D) where
 
   -- that takes memory alone
   room-leaves : (old new : Store D disk) (ask : Ask) (k h : List Entry) → StandsLegally disk old k h → disk.tells → LeavesAsBefore old new
-      → LeavesOnly disk.moment disk.left_since (disk_of old) (disk_of new) (LeavesNext (host_of old) k h (Some ask))
-  room-leaves old new ask k h s tells leaves = weaker disk.moment disk.left_since (disk_of old) (disk_of new) (disk.may_leave (disk_of old)) (LeavesNext (host_of old) k h (Some ask)) (leaves tells)
-      (λ c left. leaves-in_flight (host_of old) k h ask c (s.stands.leaves tells c left))
+      → LeavesOnly disk.moment disk.left_since (disk_of old) (disk_of new) (LeavesNext (terms_of old) k h (Some ask))
+  room-leaves old new ask k h s tells leaves = weaker disk.moment disk.left_since (disk_of old) (disk_of new) (disk.may_leave (disk_of old)) (LeavesNext (terms_of old) k h (Some ask)) (leaves tells)
+      (λ c left. leaves-in_flight (terms_of old) k h ask c (s.stands.leaves tells c left))
 
   -- that writes
   change-leaves : (old new : Store D disk) (ask : Ask) (k h : List Entry) → StandsLegally disk old k h → disk.tells → fault_of old ≡ None → Changes old ask → LeavesEither old new ask
-      → LeavesOnly disk.moment disk.left_since (disk_of old) (disk_of new) (LeavesNext (host_of old) k h (Some ask))
-  change-leaves old new ask k h s tells goes changing leaves = weaker disk.moment disk.left_since (disk_of old) (disk_of new) (IsWithOrWithout (host_of old) (h ++ k) ask) (LeavesNext (host_of old) k h (Some ask))
+      → LeavesOnly disk.moment disk.left_since (disk_of old) (disk_of new) (LeavesNext (terms_of old) k h (Some ask))
+  change-leaves old new ask k h s tells goes changing leaves = weaker disk.moment disk.left_since (disk_of old) (disk_of new) (IsWithOrWithout (host_of old) (area_of old) (h ++ k) ask) (LeavesNext (terms_of old) k h (Some ask))
       (leaves tells (h ++ k) s.stands.memory (s.stands.written tells goes))
-      (λ c either. either-next (host_of old) k h ask c (s.stands.fault ∙ goes) (changing k h s) either)
+      (λ c either. either-next (terms_of old) k h ask c (s.stands.fault ∙ goes) (changing k h s) either)
 
   -- ---- a change that is not made, though the disk did not fail
 
   acts-unmade : (old new : Store D disk) (ask : Ask) (reply : Reply) → count_of reply ≡ None → is_failure reply ≡ true → fault_of old ≡ None → fault_of new ≡ None
       → SameMemory old.history new.history → area_of new ≡ area_of old
       → ((k h : List Entry) → StandsLegally disk old k h → disk.tells → IsWritten disk (host_of old) (h ++ k) new.journal)
-      → ((k h : List Entry) → StandsLegally disk old k h → disk.tells → LeavesOnly disk.moment disk.left_since (disk_of old) (disk_of new) (LeavesNext (host_of old) k h (Some ask)))
+      → ((k h : List Entry) → StandsLegally disk old k h → disk.tells → LeavesOnly disk.moment disk.left_since (disk_of old) (disk_of new) (LeavesNext (terms_of old) k h (Some ask)))
       → disk.count (disk_of new) ≡ disk.count (disk_of old) → SpendsNone disk (disk_of old) (disk_of new) → Changes old ask → MayReply old ask reply → Acts disk old new ask reply
   acts-unmade old new ask reply counts failed goes goes_on same area written leaves count spends changing legal = record {
     terms = same-terms old new (same-home old.history new.history same) area;
@@ -211,7 +212,7 @@ module _ {D : Type 0} (disk : Ghosts D) where
       → count ≡ disk.count (disk_of new) → disk.count (disk_of new) ≡ raised (disk.count (disk_of old)) → ((left : ℕ) → disk.passes (disk_of old) (left + 4) → ⊥)
       → Changes old ask → MayReply old ask (replies.DiskFault count) → Acts disk old new ask (replies.DiskFault count)
   acts-faulted counts_now reads_own old new ask count goes stopped same area leaves told_count rose enough changing legal = record {
-    terms = same-terms old new home area;
+    terms = own;
     stands = λ k h s. record {
       memory = failed-of new.history (h ++ k) ask (replies.DiskFault count) (same-of old.history new.history (h ++ k) same s.stands.memory) refl;
       fault = sym stopped;
@@ -234,14 +235,17 @@ module _ {D : Type 0} (disk : Ghosts D) where
       home : host_of new ≡ host_of old
       home = same-home old.history new.history same
 
+      own : terms_of new ≡ terms_of old
+      own = same-terms old new home area
+
       above : (before now : ℕ) → count ≡ now → now ≡ raised before → 0 < count
       above before now is more = omega arith
 
-      left_now : (k h : List Entry) → StandsLegally disk old k h → disk.tells → (c : List ℕ) → disk.may_leave (disk_of new) c → LeavesNext (host_of new) k (told ask (replies.DiskFault count) ∷ h) None c
+      left_now : (k h : List Entry) → StandsLegally disk old k h → disk.tells → (c : List ℕ) → disk.may_leave (disk_of new) c → LeavesNext (terms_of new) k (told ask (replies.DiskFault count) ∷ h) None c
       left_now k h s tells c left =
           let within = change-leaves old new ask k h s tells goes changing leaves in
           let here = within.each c (counts_now (disk_of new) (disk.moment (disk_of old)) c within.later left) in
-          subst (λ host. LeavesNext host k (told ask (replies.DiskFault count) ∷ h) None c) (sym home) (here.0, here.1, next-faulted (host_of old) k h ask count here.0 (s.stands.fault ∙ goes) here.2)
+          subst (λ t. LeavesNext t k (told ask (replies.DiskFault count) ∷ h) None c) (sym own) (here.0, here.1, next-faulted (host_of old) k h ask count here.0 (s.stands.fault ∙ goes) here.2)
 
   -- ---- a change that was not written
 
@@ -298,8 +302,8 @@ module _ {D : Type 0} (disk : Ghosts D) where
     cause = λ n is. (let cause = acts.cause n is in (cause.0, cause.1 ∙ ap raised count));
     no_cause = λ none. acts.no_cause none ∙ count;
     any_moment = λ tells k h s.
-        joined disk.moment disk.left_since (disk_of old) (disk_of middle) (disk_of new) (LeavesNext (host_of old) k h (Some ask)) (room-leaves old middle ask k h s tells leaves)
-        (subst (λ host. LeavesOnly disk.moment disk.left_since (disk_of middle) (disk_of new) (LeavesNext host k h (Some ask))) home (acts.any_moment tells k h (after k h s)));
+        joined disk.moment disk.left_since (disk_of old) (disk_of middle) (disk_of new) (LeavesNext (terms_of old) k h (Some ask)) (room-leaves old middle ask k h s tells leaves)
+        (subst (λ t. LeavesOnly disk.moment disk.left_since (disk_of middle) (disk_of new) (LeavesNext t k h (Some ask))) own (acts.any_moment tells k h (after k h s)));
     idle = λ k h s idle. absurd (not_both _ (changing k h s) idle);
     made = λ k h s changes made. (λ left. (let four = acts.made k h (after k h s) (same_would k h ∙ changes) made left in
         (λ burnt. four.0 ((spends (left + 4)).0 burnt), λ pass. four.1 ((spends (left + 4)).1 pass))));
@@ -350,13 +354,13 @@ module _ {D : Type 0} (disk : Ghosts D) (only_now : (d : D) (c : List ℕ) → d
       written = λ tells goes.
           written-same disk (host_of store) (h ++ k) (told ask reply ∷ (h ++ k)) store.journal store.journal (ap (leaned (host_of store)) (sym (same (h ++ k) s.stands.memory))) refl (λ label records holds. holds)
           (s.stands.written tells goes);
-      reads = λ tells. leaves-idle (host_of store) k h (told ask reply) _ counts (same (h ++ k) s.stands.memory) (s.stands.reads tells);
-      leaves = λ tells c left. leaves-idle (host_of store) k h (told ask reply) c counts (same (h ++ k) s.stands.memory) (s.stands.leaves tells c left);
+      reads = λ tells. leaves-idle (terms_of store) k h (told ask reply) _ counts (same (h ++ k) s.stands.memory) (s.stands.reads tells);
+      leaves = λ tells c left. leaves-idle (terms_of store) k h (told ask reply) c counts (same (h ++ k) s.stands.memory) (s.stands.leaves tells c left);
     };
     legal = λ k h s. (legal k h s, s.legal);
     cause = λ n is. absurd (no_fault reply n counts is);
     no_cause = λ none. refl;
-    any_moment = λ tells k h s. still_leaves (disk_of store) (LeavesNext (host_of store) k h (Some ask)) (λ c left. leaves-in_flight (host_of store) k h ask c (s.stands.leaves tells c left));
+    any_moment = λ tells k h s. still_leaves (disk_of store) (LeavesNext (terms_of store) k h (Some ask)) (λ c left. leaves-in_flight (terms_of store) k h ask c (s.stands.leaves tells c left));
     idle = λ k h s idle. refl;
     made = λ k h s changes made. absurd (not_both _ (failing k h s changes) made);
     not_made = λ failed none left. (λ b. b, λ p. p);

@@ -37,9 +37,9 @@ use Rattle.ocm_store.specs.Stores.{IsWritten}
 
 module _ {D : Type 0} (disk : Ghosts D) (history : History) (g : List Entry) (ask : Ask) (plan : Plan) (form : ℕ) (draft : Draft) (change : IsChange history g ask plan form draft) where
   -- what was written before leaves the history without the change
-  unchanged-leaves : (old : Journal D disk) (area : ℕ) (w : IsWritten disk (home_of history) g old) (c : List ℕ) → IsImage (home_of history) area (form_of old) w.records c → IsWithOrWithout (home_of history) g ask c
+  unchanged-leaves : (old : Journal D disk) (area : ℕ) (w : IsWritten disk (home_of history) g old) (c : List ℕ) → IsImage (home_of history) area (form_of old) w.records c → IsWithOrWithout (home_of history) area g ask c
   unchanged-leaves old area w c image =
-      (w.list, (area, form_of old, w.records, image, w.opens), answered-legal (home_of history) w.list (opened-answered (home_of history) (form_of old) w.records w.list w.opens), inl w.same)
+      (w.list, (form_of old, w.records, image, w.opens), answered-legal (home_of history) w.list (opened-answered (home_of history) (form_of old) w.records w.list w.opens), inl w.same)
 
   -- ---- appended
 
@@ -62,12 +62,12 @@ module _ {D : Type 0} (disk : Ghosts D) (history : History) (g : List Entry) (as
     spelled = (change.spelled, w.spelled);
   }
 
-  pub append-leaves : (old : Journal D disk) (area : ℕ) → form_of old ≡ form → (w : IsWritten disk (home_of history) g old) → (c : List ℕ) → IsBeforeOrAfter (home_of history) area form w.records draft.written c → IsWithOrWithout (home_of history) g ask c
+  pub append-leaves : (old : Journal D disk) (area : ℕ) → form_of old ≡ form → (w : IsWritten disk (home_of history) g old) → (c : List ℕ) → IsBeforeOrAfter (home_of history) area form w.records draft.written c → IsWithOrWithout (home_of history) area g ask c
   append-leaves old area own w c (inl image) = unchanged-leaves old area w c (subst (λ f. IsImage (home_of history) area f w.records c) (sym own) image)
   append-leaves old area own w c (inr image) =
       let opens = appended-opens w.records w.list (ap (λ f. opened (home_of history) f w.records) (sym own) ∙ w.opens) w.same w.spelled in (
         heard (home_of history) g ask ∷ w.list,
-        (area, form, w.records ++ draft.written ∷ [], image, opens),
+        (form, w.records ++ draft.written ∷ [], image, opens),
         answered-legal (home_of history) (heard (home_of history) g ask ∷ w.list) (opened-answered (home_of history) form (w.records ++ draft.written ∷ []) (heard (home_of history) g ask ∷ w.list) opens),
         inr (lean-goes_on (home_of history) (heard (home_of history) g ask) w.list g w.same),
       )
@@ -96,12 +96,12 @@ module _ {D : Type 0} (disk : Ghosts D) (history : History) (g : List Entry) (as
   }
 
   pub renew-leaves : (old : Journal D disk) (area : ℕ) (records : List (List ℕ)) → records ≡ records_of (lean (home_of history) (with_change history g ask)) → (w : IsWritten disk (home_of history) g old)
-      → (c : List ℕ) → IsOldOrNew (home_of history) area (form_of old) w.records records c → IsWithOrWithout (home_of history) g ask c
+      → (c : List ℕ) → IsOldOrNew (home_of history) area (form_of old) w.records records c → IsWithOrWithout (home_of history) area g ask c
   renew-leaves old area records are w c (inl image) = unchanged-leaves old area w c image
   renew-leaves old area records are w c (inr image) =
       let opens = ap (opened (home_of history) 2) are ∙ renewed-opens in (
         lean (home_of history) (with_change history g ask),
-        (area, 2, records, image, opens),
+        (2, records, image, opens),
         answered-legal (home_of history) (lean (home_of history) (with_change history g ask)) (opened-answered (home_of history) 2 records (lean (home_of history) (with_change history g ask)) opens),
         inr (lean-lean (home_of history) (with_change history g ask) grown-legal),
       )
@@ -117,25 +117,25 @@ module _ {D : Type 0} (disk : Ghosts D) (history : History) (g : List Entry) (as
 
   pub appended-moments : (old new : Journal D disk) (bytes : List ℕ) → bytes ≡ draft.written → form_of old ≡ form → (w : IsWritten disk (home_of history) g old)
       → LeavesOnly disk.moment disk.left_since (disk_of old) (disk_of new) (IsBeforeOrAfter (home_of history) (area_of old) form w.records bytes)
-      → LeavesOnly disk.moment disk.left_since (disk_of old) (disk_of new) (IsWithOrWithout (home_of history) g ask)
+      → LeavesOnly disk.moment disk.left_since (disk_of old) (disk_of new) (IsWithOrWithout (home_of history) (area_of old) g ask)
   appended-moments old new bytes is own w leaves =
-      weaker disk.moment disk.left_since (disk_of old) (disk_of new) (IsBeforeOrAfter (home_of history) (area_of old) form w.records bytes) (IsWithOrWithout (home_of history) g ask) leaves
+      weaker disk.moment disk.left_since (disk_of old) (disk_of new) (IsBeforeOrAfter (home_of history) (area_of old) form w.records bytes) (IsWithOrWithout (home_of history) (area_of old) g ask) leaves
       (λ c left. append-leaves old (area_of old) own w c (subst (λ b. IsBeforeOrAfter (home_of history) (area_of old) form w.records b c) is left))
 
   pub renewed-moments : (old new : Journal D disk) (records : List (List ℕ)) → records ≡ records_of (lean (home_of history) (with_change history g ask)) → (w : IsWritten disk (home_of history) g old)
       → LeavesOnly disk.moment disk.left_since (disk_of old) (disk_of new) (IsOldOrNew (home_of history) (area_of old) (form_of old) w.records records)
-      → LeavesOnly disk.moment disk.left_since (disk_of old) (disk_of new) (IsWithOrWithout (home_of history) g ask)
+      → LeavesOnly disk.moment disk.left_since (disk_of old) (disk_of new) (IsWithOrWithout (home_of history) (area_of old) g ask)
   renewed-moments old new records are w leaves =
-      weaker disk.moment disk.left_since (disk_of old) (disk_of new) (IsOldOrNew (home_of history) (area_of old) (form_of old) w.records records) (IsWithOrWithout (home_of history) g ask) leaves
+      weaker disk.moment disk.left_since (disk_of old) (disk_of new) (IsOldOrNew (home_of history) (area_of old) (form_of old) w.records records) (IsWithOrWithout (home_of history) (area_of old) g ask) leaves
       (renew-leaves old (area_of old) records are w)
 
   -- ---- nothing is written
 
   pub unchanged-moments : (old : Journal D disk) → ((d : D) (c : List ℕ) → disk.left_since d (disk.moment d) c → disk.may_leave d c) → IsWritten disk (home_of history) g old
-      → LeavesOnly disk.moment disk.left_since (disk_of old) (disk_of old) (IsWithOrWithout (home_of history) g ask)
+      → LeavesOnly disk.moment disk.left_since (disk_of old) (disk_of old) (IsWithOrWithout (home_of history) (area_of old) g ask)
   unchanged-moments old only_now w = record {
     later = omega arith;
-    each = λ c left. subst (IsWithOrWithout (home_of history) g ask) (sym (w.holds.durable c (only_now (disk_of old) c left))) (unchanged-leaves old (area_of old) w (disk.seen (disk_of old)) w.holds.image);
+    each = λ c left. subst (IsWithOrWithout (home_of history) (area_of old) g ask) (sym (w.holds.durable c (only_now (disk_of old) c left))) (unchanged-leaves old (area_of old) w (disk.seen (disk_of old)) w.holds.image);
     before = λ t c le left. inl left;
   }
 

@@ -27,8 +27,9 @@ use Rattle.ocm_journal.specs.declared.faults.OpenFault.TheVariants as faults
 use Rattle.ocm_journal.specs.declared.journal.Journal.{Journal}
 use Rattle.ocm_journal.specs.Journals as journals
 use Rattle.ocm_journal.specs.Journals.{StandsFor}
-use Rattle.ocm_journal.specs.Openings.{Opens, StaysAsItOpens, opening}
+use Rattle.ocm_journal.specs.Openings.{IsMadeAs, Opens, StaysAsItOpens, opening}
 use Rattle.ocm_journal.specs.Openings as openings
+use Rattle.ocm_journal.specs.Passing as passing
 use Rattle.ocm_journal.proofs.Moving.{weaker}
 use Rattle.ocm_rules.specs.History.{IsLegal}
 use Rattle.ocm_history.specs.declared.faults.ReplayFault.{ReplayFault}
@@ -43,8 +44,9 @@ use Rattle.ocm_law_sessions.proofs.Opening.{opened-answered}
 use Rattle.ocm_store.specs.declared.load_faults.LoadFault.{LoadFault}
 use Rattle.ocm_store.specs.declared.load_faults.LoadFault.TheVariants as loads
 use Rattle.ocm_store.specs.declared.stores.Store.{Store}
-use Rattle.ocm_store.specs.Opening.{IsRefused, IsSaidBy, OpensAlike, OpensTo, as_load_fault, live_form, loading, of_replay, replayed, unless_refused}
+use Rattle.ocm_store.specs.Opening.{IsNoDiskFault, IsOfArea, IsRefused, IsSaidBy, OpensAlike, OpensTo, as_load_fault, live_form, loading, of_replay, replayed, unless_refused}
 use Rattle.ocm_store.specs.Stores.{IsLegalUnder, IsWritten, LeavesNext, Stands, disk_of, fault_of, host_of, terms_of}
+use Rattle.ocm_store.proofs.Exits.{same-terms}
 use Rattle.ocm_store.proofs.Opens.{opens-loaded}
 
 -- ---- hosts are labels
@@ -111,6 +113,25 @@ pub refused-of : (refused : Option ℕ) (fault : ReplayFault) → IsReplayFault 
 refused-of refused (replays.Refused place) said = said
 refused-of refused replays.NoMemory said = tt
 
+-- ---- no fault of the disk
+
+refused-no_fault : (refused : Option ℕ) (fault : LoadFault) → IsRefused refused fault → IsNoDiskFault fault
+refused-no_fault refused (loads.DiskFault count) is = is
+refused-no_fault refused (loads.NotJournal place) is = tt
+refused-no_fault refused (loads.OtherHost label) is = tt
+refused-no_fault refused loads.NoMemory is = tt
+
+-- where none of them is told of a journal, none is told of a store
+pub opened-no_fault : (fault : OpenFault) → passing.IsNoDiskFault fault → IsNoDiskFault (as_load_fault fault)
+opened-no_fault (faults.DiskFault count) none = none
+opened-no_fault (faults.NotJournal place) none = tt
+opened-no_fault (faults.OtherLabel label) none = tt
+opened-no_fault faults.NoMemory none = tt
+
+pub replayed-no_fault : {T D : Type 0} (refused : Option ℕ) (result : Result T (D × LoadFault)) → IfErr result (λ failed. IsRefused refused failed.1) → IfErr result (λ failed. IsNoDiskFault failed.1)
+replayed-no_fault refused (Ok store) is = tt
+replayed-no_fault refused (Err failed) is = refused-no_fault refused failed.1 is
+
 -- ---- what a store stands for
 
 -- all that a crash leaves while a disk is opened opens to what the disk opens to
@@ -120,8 +141,8 @@ stays-alike host area seen bytes (inr left) = λ k opens. by_opens k opens left.
   where
     by_opens : (k : List Entry) → OpensTo host area k seen → Opens host area [] bytes → OpensTo host area k bytes
     by_opens k (inl (own, none)) (inl (is, empty)) = inl (is, none)
-    by_opens k (inl (own, none)) (inr (size, form, image)) = inr (size, form, [], image, ap (λ l. Some l) (sym none))
-    by_opens k (inr (size, form, records, image, list)) new = absurd (blank_is_none seen host host area size form records left.0 image)
+    by_opens k (inl (own, none)) (inr (size, form, image)) = inr (size, (form, [], image, ap (λ l. Some l) (sym none)))
+    by_opens k (inr (size, (form, records, image, list))) new = absurd (blank_is_none seen host host area size form records left.0 image)
 
 module _ {D : Type 0} (disk : Ghosts D) where
   -- a store whose memory is that of a list, and whose journal opens to it
@@ -140,29 +161,32 @@ module _ {D : Type 0} (disk : Ghosts D) where
       none-counted None is = tt
       none-counted (Some count) is = absurd (cc)
 
-      leaves : disk.tells → (c : List ℕ) → disk.may_leave (disk_of store) c → LeavesNext (host_of store) k [] None c
+      leaves : disk.tells → (c : List ℕ) → disk.may_leave (disk_of store) c → LeavesNext (terms_of store) k [] None c
       leaves tells c left =
           let w = written tells in
-          subst (LeavesNext (host_of store) k [] None) (sym (w.holds.durable c left))
-          (w.list, (store.journal.area, store.journal.form, w.records, w.holds.image, w.opens), (answered-legal (host_of store) w.list (opened-answered (host_of store) store.journal.form w.records w.list w.opens), inl w.same))
+          subst (LeavesNext (terms_of store) k [] None) (sym (w.holds.durable c left))
+          (w.list, (store.journal.form, w.records, w.holds.image, w.opens), (answered-legal (host_of store) w.list (opened-answered (host_of store) store.journal.form w.records w.list w.opens), inl w.same))
 
   -- the same store on the same bytes, with what is known of its journal
-  pub fused-stands : (old new : Store D disk) (k h : List Entry) → new.history ≡ old.history → fault_of new ≡ fault_of old → journals.form_of new.journal ≡ journals.form_of old.journal
+  pub fused-stands : (old new : Store D disk) (k h : List Entry) → new.history ≡ old.history → fault_of new ≡ fault_of old → journals.SameShape old.journal new.journal
       → disk.seen (disk_of new) ≡ disk.seen (disk_of old) → disk.count (disk_of new) ≡ disk.count (disk_of old) → ((c : List ℕ) → disk.may_leave (disk_of new) c → disk.may_leave (disk_of old) c)
       → ((label : List ℕ) (records : List (List ℕ)) → StandsFor disk label records old.journal → StandsFor disk label records new.journal) → Stands disk old k h → Stands disk new k h
-  fused-stands old new k h history fault form seen count leaves holds s = record {
+  fused-stands old new k h history fault shape seen count leaves holds s = record {
     memory = subst (λ m. IsOf m (h ++ k)) (sym history) s.memory;
     fault = s.fault ∙ sym fault;
     counted = subst (λ o. IfSome o (λ n. (n ≡ disk.count (disk_of new)) × (0 < n))) (sym fault) (subst (λ (m : ℕ). IfSome (fault_of old) (λ n. (n ≡ m) × (0 < n))) (sym count) s.counted);
     written = λ tells so. (let w = s.written tells (sym fault ∙ so) in
         subst (λ host. IsWritten disk host (h ++ k) new.journal) (sym home)
-        (record { records = w.records; list = w.list; holds = holds (host_of old) w.records w.holds; opens = ap (λ f. opened (host_of old) f w.records) form ∙ w.opens; same = w.same; spelled = w.spelled }));
-    reads = λ tells. subst (λ b. LeavesNext (host_of new) k h None b) (sym seen) (subst (λ host. LeavesNext host k h None (disk.seen (disk_of old))) (sym home) (s.reads tells));
-    leaves = λ tells c left. subst (λ host. LeavesNext host k h None c) (sym home) (s.leaves tells c (leaves c left));
+        (record { records = w.records; list = w.list; holds = holds (host_of old) w.records w.holds; opens = ap (λ f. opened (host_of old) f w.records) shape.1 ∙ w.opens; same = w.same; spelled = w.spelled }));
+    reads = λ tells. subst (λ b. LeavesNext (terms_of new) k h None b) (sym seen) (subst (λ t. LeavesNext t k h None (disk.seen (disk_of old))) (sym own) (s.reads tells));
+    leaves = λ tells c left. subst (λ t. LeavesNext t k h None c) (sym own) (s.leaves tells c (leaves c left));
   }
     where
       home : host_of new ≡ host_of old
       home = ap (λ (m : History). home_of m) history
+
+      own : terms_of new ≡ terms_of old
+      own = same-terms disk old new home shape.0
 
 -- ---- a store that was loaded
 
@@ -170,6 +194,7 @@ module _ {D : Type 0} (disk : Ghosts D) where
 pub record IsLoaded {D : Type 0} (disk : Ghosts D) (host : List ℕ) (area : ℕ) (old : D) (journal : Journal D disk) (raw : List RawRecord) : Type 0 where
   pub reads : disk.tells → opening host area (disk.seen old) ≡ Ok raw
   pub holds : disk.tells → StandsFor disk host (contents raw) journal
+  pub made : disk.tells → IsMadeAs host area (disk.seen old) (journals.form_of journal) (journals.area_of journal)
   pub same : disk.tells → blank_of host area (disk.seen old) ≡ None → disk.seen (journals.disk_of journal) ≡ disk.seen old
   pub moments : disk.tells → LeavesOnly disk.moment disk.left_since old (journals.disk_of journal) (λ c. disk.may_leave old c ⊎ StaysAsItOpens host area (disk.seen old) c)
 
@@ -210,7 +235,7 @@ module _ {D : Type 0} {disk : Ghosts D} {host : List ℕ} {area : ℕ} {old : D}
   opens-list tells k opens = by_blank (blank_of host area (disk.seen old)) refl
     where
       by_blank : (o : Option Blank) → blank_of host area (disk.seen old) ≡ o → OpensTo host area k (disk.seen old)
-      by_blank None is = inr (journal.area, journal.form, contents raw, subst (λ b. IsImage host journal.area journal.form (contents raw) b) (loaded.same tells is) (loaded.holds tells).image, opens)
+      by_blank None is = inr (journal.area, (journal.form, contents raw, subst (λ b. IsImage host journal.area journal.form (contents raw) b) (loaded.same tells is) (loaded.holds tells).image, opens))
       by_blank (Some blank) is =
           let none : raw ≡ [] = blank-raw host area (disk.seen old) raw blank is (loaded.reads tells) in
           inl (let P : Option Blank → Type 0 = λ o. IsSome o in subst P (sym is) refl, some-list (sym opens ∙ ap (λ rs. opened host (journals.form_of journal) (contents rs)) none))
@@ -233,12 +258,24 @@ module _ {D : Type 0} {disk : Ghosts D} {host : List ℕ} {area : ℕ} {old : D}
   all-said tells (Err failed) refused =
       said-refused host area (disk.seen old) (disk.seen (journals.disk_of journal)) journal.area journal.form raw failed.1 (loaded.reads tells) (loaded.holds tells).image (loaded.same tells) refused
 
+  -- what the journal has, the store has
+  pub all-kept : (P : Journal D disk → Type 0) → P journal → (result : Result (Store D disk) (D × LoadFault)) → IfOk result (λ store. store.journal ≡ journal) → IfOk result (λ store. P store.journal)
+  all-kept P here (Ok store) same = subst P (sym same) here
+  all-kept P here (Err failed) same = tt
+
+  -- its areas have the size that the disk says
+  pub of-area : disk.tells → IsOfArea host area (journals.area_of journal) (disk.seen old)
+  of-area tells = by_blank (blank_of host area (disk.seen old)) refl
+    where
+      by_blank : (o : Option Blank) → blank_of host area (disk.seen old) ≡ o → IsOfArea host area (journals.area_of journal) (disk.seen old)
+      by_blank None is = inr (journal.form, contents raw, subst (λ b. IsImage host journal.area journal.form (contents raw) b) (loaded.same tells is) (loaded.holds tells).image)
+      by_blank (Some blank) is = inl (let P : Option Blank → Type 0 = λ o. IsSome o in subst P (sym is) refl, (loaded.made tells blank is).1)
+
   pub moments-ok : disk.tells → (result : Result (Store D disk) (D × LoadFault)) → IfOk result (λ store. store.journal ≡ journal)
       → IfOk result (λ store. LeavesOnly disk.moment disk.left_since old (disk_of store) (λ c. disk.may_leave old c ⊎ OpensAlike host area (disk.seen old) c))
-  moments-ok tells (Ok store) same =
-      let P : D → Type 0 = λ d. LeavesOnly disk.moment disk.left_since old d (λ c. disk.may_leave old c ⊎ OpensAlike host area (disk.seen old) c) in
-      subst P (sym (ap (λ (j : Journal D disk). journals.disk_of j) same)) (wider disk host area old (journals.disk_of journal) (loaded.moments tells))
-  moments-ok tells (Err failed) same = tt
+  moments-ok tells =
+      all-kept (λ j. LeavesOnly disk.moment disk.left_since old (journals.disk_of j) (λ c. disk.may_leave old c ⊎ OpensAlike host area (disk.seen old) c))
+      (wider disk host area old (journals.disk_of journal) (loaded.moments tells))
 
   pub moments-err : disk.tells → (result : Result (Store D disk) (D × LoadFault)) → IfErr result (λ failed. failed.0 ≡ journals.disk_of journal)
       → IfErr result (λ failed. LeavesOnly disk.moment disk.left_since old failed.0 (λ c. disk.may_leave old c ⊎ OpensAlike host area (disk.seen old) c))

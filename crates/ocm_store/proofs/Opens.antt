@@ -24,7 +24,7 @@ use Rattle.ocm_law_sessions.specs.Readings.{opened, refused_at}
 use Rattle.ocm_law_sessions.proofs.Entries.{answered-kept, answered-legal}
 use Rattle.ocm_law_sessions.proofs.Opening.{opened-answered, opened-unrefused, unrefused-opens}
 use Rattle.ocm_store.specs.declared.load_faults.LoadFault.{LoadFault}
-use Rattle.ocm_store.specs.Opening.{IsImageOf, OpensTo, live_form, loading, replayed, unless_refused}
+use Rattle.ocm_store.specs.Opening.{IsImageIn, IsImageOf, IsOfArea, OpensTo, live_form, loading, replayed, unless_refused}
 
 -- ---- one list
 
@@ -32,12 +32,12 @@ some-list : (k other : List Entry) → ◌≡◌ {A = Option (List Entry)} (Some
 some-list k other is = cc
 
 images-same : (host : List ℕ) (k other : List Entry) (bytes : List ℕ) → IsImageOf host k bytes → IsImageOf host other bytes → k ≡ other
-images-same host k other bytes (area, form, records, image, opens) (size, shape, others, second, opens_too) =
+images-same host k other bytes (area, (form, records, image, opens)) (size, (shape, others, second, opens_too)) =
     let one = one_image bytes host host area size form shape records others image second in
     some-list k other (sym opens ∙ ap (λ f. opened host f records) one.2 ∙ ap (λ rs. opened host shape rs) one.3 ∙ opens_too)
 
 not-both : (host : List ℕ) (area : ℕ) (k : List Entry) (bytes : List ℕ) → IsBlank host area bytes → IsImageOf host k bytes → ⊥
-not-both host area k bytes blank (size, form, records, image, opens) = blank_is_none bytes host host area size form records blank image
+not-both host area k bytes blank (size, (form, records, image, opens)) = blank_is_none bytes host host area size form records blank image
 
 pub opens-once : (host : List ℕ) (area : ℕ) (k other : List Entry) (bytes : List ℕ) → OpensTo host area k bytes → OpensTo host area other bytes → k ≡ other
 opens-once host area k other bytes (inl (blank, none)) (inl (blank_too, none_too)) = none ∙ sym none_too
@@ -45,15 +45,28 @@ opens-once host area k other bytes (inl (blank, none)) (inr image) = absurd (not
 opens-once host area k other bytes (inr image) (inl (blank, none)) = absurd (not-both host area k bytes blank image)
 opens-once host area k other bytes (inr image) (inr image_too) = images-same host k other bytes image image_too
 
+-- ---- one area
+
+pub areas-same : (host : List ℕ) (area other form shape : ℕ) (records others : List (List ℕ)) (bytes : List ℕ) → IsImage host area form records bytes → IsImage host other shape others bytes → area ≡ other
+areas-same host area other form shape records others bytes image second = (one_image bytes host host area other form shape records others image second).1
+
+pub images-alike : (host : List ℕ) (area other : ℕ) (k next : List Entry) (bytes : List ℕ) → IsImageIn host area k bytes → IsImageIn host other next bytes → (area ≡ other) × (k ≡ next)
+images-alike host area other k next bytes (form, records, image, opens) (shape, others, second, opens_too) =
+    (areas-same host area other form shape records others bytes image second, images-same host k next bytes (area, (form, records, image, opens)) (other, (shape, others, second, opens_too)))
+
+pub loaded-area : (host : List ℕ) (new area other : ℕ) (k : List Entry) (bytes : List ℕ) → IsOfArea host new area bytes → IsImageIn host other k bytes → area ≡ other
+loaded-area host new area other k bytes (inl (blank, same)) image = absurd (not-both host new k bytes blank (other, image))
+loaded-area host new area other k bytes (inr (form, records, image)) (shape, others, second, opens) = areas-same host area other form shape records others bytes image second
+
 -- ---- a session begins
 
 pub opens-legal : (host : List ℕ) (area : ℕ) (k : List Entry) (bytes : List ℕ) → OpensTo host area k bytes → IsLegal host k
 opens-legal host area k bytes (inl (blank, none)) = subst (λ l. IsLegal host l) (sym none) tt
-opens-legal host area k bytes (inr (size, form, records, image, opens)) = answered-legal host k (opened-answered host form records k opens)
+opens-legal host area k bytes (inr (size, (form, records, image, opens))) = answered-legal host k (opened-answered host form records k opens)
 
 pub opens-kept : (host : List ℕ) (area : ℕ) (k : List Entry) (bytes : List ℕ) → OpensTo host area k bytes → kept host k ≡ k
 opens-kept host area k bytes (inl (blank, none)) = let P : List Entry → Type 0 = λ l. kept host l ≡ l in subst P (sym none) refl
-opens-kept host area k bytes (inr (size, form, records, image, opens)) = answered-kept host k (opened-answered host form records k opens)
+opens-kept host area k bytes (inr (size, (form, records, image, opens))) = answered-kept host k (opened-answered host form records k opens)
 
 -- ---- how it is read
 
@@ -90,8 +103,8 @@ below-read host bytes image is own = by_header (header_of (length bytes) bytes) 
 
 loaded-image : (host : List ℕ) (area : ℕ) (k : List Entry) (bytes : List ℕ) → IsImageOf host k bytes → loading host area bytes ≡ Ok k
 unfolding loading
-loaded-image host area k bytes (size, form, records, image, opens) =
-    ap (λ o. replayed host (live_form bytes) (unless_blank o (records_below host bytes (header_of (length bytes) bytes)))) (no-blank host area k bytes (size, form, records, image, opens))
+loaded-image host area k bytes (size, (form, records, image, opens)) =
+    ap (λ o. replayed host (live_form bytes) (unless_blank o (records_below host bytes (header_of (length bytes) bytes)))) (no-blank host area k bytes (size, (form, records, image, opens)))
     ∙ ap (λ r. replayed host (live_form bytes) r) (below-read host bytes read is refl)
     ∙ ap (λ f. replayed host f (Ok raw)) (ap (λ (r : Result Image ℕ). option_map_or (λ (i : Image). i.live.form) (result_ok r) 2) is)
     ∙ ap (λ o. unless_refused o (opened host form (contents raw))) (opened-unrefused host form raw k whole)
@@ -137,7 +150,7 @@ loaded-opens host area k bytes are is = by_blank (blank_of host area bytes) refl
         → unless_refused (refused_at host live.form live.records) (opened host live.form (contents live.records)) ≡ Ok k → IsImageOf host k bytes
     from_records header live image label h =
         let stands = image_stands bytes (record { header = header; live = live }) are image in
-        (header.area, live.form, contents live.records, subst (λ l. IsImage l header.area live.form (contents live.records) bytes) label stands.image, loaded-list host live.form live.records k h)
+        (header.area, (live.form, contents live.records, subst (λ l. IsImage l header.area live.form (contents live.records) bytes) label stands.image, loaded-list host live.form live.records k h))
 
     by_area : (header : Header) → header_of (length bytes) bytes ≡ Ok header → (a : Result Area ℕ) → area_of (length bytes) (start_of header) (live_bytes header bytes) ≡ a
         → (b : Bool) → pointwise nat_eq header.label host ≡ b → replayed host (live_form bytes) (if b then records_in a else Err (faults.OtherLabel header.label)) ≡ Ok k → IsImageOf host k bytes

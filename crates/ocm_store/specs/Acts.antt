@@ -12,13 +12,13 @@ use Rattle.ocm_rules.specs.Lean.{lean}
 use Rattle.ocm_law_sessions.specs.Sessions.{count_of, heard, would_change}
 use Rattle.ocm_history.specs.Changes.{told}
 use Rattle.ocm_store.specs.declared.stores.Store.{Store}
-use Rattle.ocm_store.specs.Opening.{IsImageOf}
+use Rattle.ocm_store.specs.Opening.{IsImageIn}
 use Rattle.ocm_store.specs.Stores.{IsLegalUnder, LeavesNext, Stands, disk_of, host_of, terms_of}
 
--- bytes that open to a list with the lean list of a history, or of that with an ask and its answer
-abbrev pub IsWithOrWithout : List ℕ → List Entry → Ask → List ℕ → Type 0
-IsWithOrWithout host g ask bytes =
-    (next : List Entry) × IsImageOf host next bytes × IsLegal host next × ((lean host next ≡ lean host g) ⊎ (lean host next ≡ lean host (heard host g ask ∷ g)))
+-- an image with areas of this size that opens to a list with the lean list of a history, or of that with an ask and its answer
+abbrev pub IsWithOrWithout : List ℕ → ℕ → List Entry → Ask → List ℕ → Type 0
+IsWithOrWithout host area g ask bytes =
+    (next : List Entry) × IsImageIn host area next bytes × IsLegal host next × ((lean host next ≡ lean host g) ⊎ (lean host next ≡ lean host (heard host g ask ∷ g)))
 
 -- ---- one call
 
@@ -45,7 +45,7 @@ pub record Acts {D : Type 0} (disk : Ghosts D) (old new : Store D disk) (ask : A
   pub no_cause : count_of reply ≡ None → disk.count (disk_of new) ≡ disk.count (disk_of old)
   -- a crash at any moment of the call leaves what may follow while this ask is in flight
   pub any_moment : disk.tells → (k h : List Entry) → StandsLegally disk old k h
-      → LeavesOnly disk.moment disk.left_since (disk_of old) (disk_of new) (LeavesNext (host_of old) k h (Some ask))
+      → LeavesOnly disk.moment disk.left_since (disk_of old) (disk_of new) (LeavesNext (terms_of old) k h (Some ask))
   -- what changes nothing leaves the disk alone
   pub idle : (k h : List Entry) → StandsLegally disk old k h → would_change (host_of old) (h ++ k) ask ≡ false → disk_of new ≡ disk_of old
   -- what is made makes four device calls, and what is not makes none, unless the disk failed

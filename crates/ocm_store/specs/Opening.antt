@@ -18,14 +18,22 @@ use Rattle.ocm_law_sessions.specs.Readings.{opened, refused_at}
 use Rattle.ocm_store.specs.declared.load_faults.LoadFault.{LoadFault}
 use Rattle.ocm_store.specs.declared.load_faults.LoadFault.TheVariants.{NotJournal, OtherHost, DiskFault, NoMemory}
 
--- the bytes are an image with this host as its label, whose records open to this list
+-- the bytes are an image with this host as its label and areas of this size, whose records open to this list
+abbrev pub IsImageIn : List ℕ → ℕ → List Entry → List ℕ → Type 0
+IsImageIn host area k bytes = (form : ℕ) × (records : List (List ℕ)) × IsImage host area form records bytes × (opened host form records ≡ Some k)
+
+-- ... and areas of some size
 abbrev pub IsImageOf : List ℕ → List Entry → List ℕ → Type 0
-IsImageOf host k bytes = (area : ℕ) × (form : ℕ) × (records : List (List ℕ)) × IsImage host area form records bytes × (opened host form records ≡ Some k)
+IsImageOf host k bytes = (area : ℕ) × IsImageIn host area k bytes
 
 -- A disk of these bytes opens to this list: it is blank and the list is empty, or it is an image of it. A new journal would have
 -- areas of this size.
 abbrev pub OpensTo : List ℕ → ℕ → List Entry → List ℕ → Type 0
 OpensTo host area k bytes = (IsBlank host area bytes × (k ≡ [])) ⊎ IsImageOf host k bytes
+
+-- A journal of a disk of these bytes has areas of this size: that of a new one where the disk is blank, and else that of its image.
+abbrev pub IsOfArea : List ℕ → ℕ → ℕ → List ℕ → Type 0
+IsOfArea host new area bytes = (IsBlank host new bytes × (area ≡ new)) ⊎ ((form : ℕ) × (records : List (List ℕ)) × IsImage host area form records bytes)
 
 -- a disk of these bytes opens to all that one of the others opens to
 abbrev pub OpensAlike : List ℕ → ℕ → List ℕ → List ℕ → Type 0
@@ -77,3 +85,8 @@ IsSaidBy says fault = says ≡ Err fault
 abbrev pub IsCounted : ℕ → ℕ → LoadFault → Type 0
 IsCounted before now (DiskFault count) = (count ≡ now) × (now ≡ raised before)
 IsCounted before now fault = Unit {0}
+
+-- a fault that is none of the disk
+abbrev pub IsNoDiskFault : LoadFault → Type 0
+IsNoDiskFault (DiskFault count) = ⊥
+IsNoDiskFault fault = Unit {0}

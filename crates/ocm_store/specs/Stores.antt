@@ -14,7 +14,7 @@ use Rattle.ocm_law_sessions.specs.Written.{IsSpelled}
 use Rattle.ocm_store.specs.declared.stores.Store.{Store}
 use Rattle.ocm_store.specs.declared.terms.Terms.{Terms}
 use Rattle.ocm_history.specs.Histories.{IsOf, home_of}
-use Rattle.ocm_store.specs.Opening.{IsImageOf}
+use Rattle.ocm_store.specs.Opening.{IsImageIn}
 
 -- the host of a store, and the label of its journal
 abbrev pub host_of : {D : Type 0} {disk : Ghosts D} → Store D disk → List ℕ
@@ -40,9 +40,10 @@ terms_of store = record { host = host_of store; area = area_of store }
 abbrev pub IsLegalUnder : Terms → List Entry → List Entry → Type 0
 IsLegalUnder terms k h = IsSession terms.host terms.area k h
 
--- what a crash leaves opens to what may follow a session, in which an ask was in flight or none
-abbrev pub LeavesNext : List ℕ → List Entry → List Entry → Option Ask → List ℕ → Type 0
-LeavesNext host k h flight bytes = (next : List Entry) × IsImageOf host next bytes × IsNext host k h flight next
+-- What a crash leaves opens to what may follow a session, in which an ask was in flight or none. Its areas have the size that
+-- the terms name.
+abbrev pub LeavesNext : Terms → List Entry → List Entry → Option Ask → List ℕ → Type 0
+LeavesNext terms k h flight bytes = (next : List Entry) × IsImageIn terms.host terms.area next bytes × IsNext terms.host k h flight next
 
 -- a journal holds records, all of them on the disk, that open to a list with the lean list of this history
 pub record IsWritten {D : Type 0} (disk : Ghosts D) (host : List ℕ) (g : List Entry) (journal : Journal D disk) : Type 0 where
@@ -63,5 +64,5 @@ pub record Stands {D : Type 0} (disk : Ghosts D) (store : Store D disk) (k h : L
   -- where it is not stopped, its journal has all of the history
   pub written : disk.tells → fault_of store ≡ None → IsWritten disk (host_of store) (h ++ k) store.journal
   -- what is read of its disk, and what a crash leaves of it, opens to what may follow this session
-  pub reads : disk.tells → LeavesNext (host_of store) k h None (disk.seen (disk_of store))
-  pub leaves : disk.tells → (c : List ℕ) → disk.may_leave (disk_of store) c → LeavesNext (host_of store) k h None c
+  pub reads : disk.tells → LeavesNext (terms_of store) k h None (disk.seen (disk_of store))
+  pub leaves : disk.tells → (c : List ℕ) → disk.may_leave (disk_of store) c → LeavesNext (terms_of store) k h None c

@@ -50,7 +50,7 @@ impl<D: Disk> Object for Store<D> {
 
         // A crash at any moment of the call leaves what opens to a list that may follow, while this ask is in flight.
         ensures any_moment { D.tells → (k h : List Entry) → StandsLegally ⟦<D as Disk>⟧ self.old k h
-            → LeavesOnly D.moment D.left_since (disk_of self.old) (disk_of self.new) (LeavesNext (host_of self.old) k h (Some ask)) }
+            → LeavesOnly D.moment D.left_since (disk_of self.old) (disk_of self.new) (LeavesNext (terms_of self.old) k h (Some ask)) }
 
         // What changes nothing leaves the disk alone. What is made makes four device calls, and what is not makes none, unless
         // the disk failed. Where fewer are left it is not made, and where four pass the disk does not fail.

@@ -2,9 +2,10 @@
 ghost use Rattle.std.specs.Prelude.{◌≡◌, [], ℕ, List, Ok};
 ghost use Rattle.ocm_base.specs.Hex.{AreBytes};
 ghost use Rattle.ocm_entry.specs.declared.entries.Entry.{Entry};
+ghost use Rattle.ocm_image.specs.Layout.{IsImage};
 ghost use Rattle.ocm_rules.specs.History.{IsLegal, kept};
 ghost use Rattle.ocm_law_sessions.specs.Sessions.{IsSession};
-ghost use Rattle.ocm_store.specs.Opening.{OpensTo, loading};
+ghost use Rattle.ocm_store.specs.Opening.{IsImageIn, IsOfArea, OpensTo, loading};
 
 /// A disk opens to one list at most.
 pub fn a_disk_opens_to_one_list()
@@ -22,4 +23,11 @@ pub fn what_opens_begins_a_session()
     ensures legal { (host : List ℕ) (area : ℕ) (k : List Entry) (bytes : List ℕ) → OpensTo host area k bytes → IsLegal host k }
     ensures kept { (host : List ℕ) (area : ℕ) (k : List Entry) (bytes : List ℕ) → OpensTo host area k bytes → kept host k ≡ k }
     ensures session { (host : List ℕ) (area size : ℕ) (k : List Entry) (bytes : List ℕ) → OpensTo host area k bytes → IsSession host size k [] }
+{}
+
+/// An image has areas of one size and opens to one list at most, and a journal that is loaded from it has areas of that size.
+pub fn an_image_has_one_area()
+    ensures area { (host : List ℕ) (area other form shape : ℕ) (records others : List (List ℕ)) (bytes : List ℕ) → IsImage host area form records bytes → IsImage host other shape others bytes → area ≡ other }
+    ensures list { (host : List ℕ) (area other : ℕ) (k next : List Entry) (bytes : List ℕ) → IsImageIn host area k bytes → IsImageIn host other next bytes → (area ≡ other) × (k ≡ next) }
+    ensures loaded { (host : List ℕ) (new area other : ℕ) (k : List Entry) (bytes : List ℕ) → IsOfArea host new area bytes → IsImageIn host other k bytes → area ≡ other }
 {}

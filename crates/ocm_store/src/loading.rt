@@ -1,5 +1,5 @@
 //! How a store is loaded, and what it tells.
-ghost use Rattle.std.specs.Prelude.{◌≡◌, ◌⊎◌, ◌≤◌, ◌^◌, ◌++◌, [], List, Ok, Some, None, IfOk, IfErr, option_copied, option_map, false};
+ghost use Rattle.std.specs.Prelude.{◌≡◌, ◌⊎◌, ◌≤◌, ◌^◌, ◌++◌, [], ℕ, List, Ok, Some, None, IfOk, IfErr, option_copied, option_map, false};
 ghost use Rattle.ocm_disk.specs.Disk.{LeavesOnly};
 ghost use Rattle.ocm_entry.specs.declared.entries.Entry.{Entry};
 ghost use Rattle.ocm_image.specs.Layout.{contents};
@@ -11,9 +11,9 @@ ghost use Rattle.ocm_rules.specs.Messages.{as_sent, out};
 ghost use Rattle.ocm_rules.specs.Numbers.{at_number};
 ghost use Rattle.ocm_rules.specs.Shares.{moment};
 ghost use Rattle.ocm_law_sessions.specs.Readings.{opened, refused_at};
-ghost use Rattle.ocm_store.specs.Opening.{IsCounted, IsRefused, IsSaidBy, OpensAlike, OpensTo, loading};
+ghost use Rattle.ocm_store.specs.Opening.{IsCounted, IsNoDiskFault, IsOfArea, IsRefused, IsSaidBy, OpensAlike, OpensTo, loading};
 ghost use Rattle.ocm_history.specs.Replays.{IsMemoryOf};
-ghost use Rattle.ocm_store.specs.Stores.{IsLegalUnder, Stands, disk_of, fault_of, host_of, terms_of};
+ghost use Rattle.ocm_store.specs.Stores.{IsLegalUnder, Stands, area_of, disk_of, fault_of, host_of, terms_of};
 
 use crate::load_faults::LoadFault;
 use crate::stores::Store;
@@ -38,9 +38,17 @@ impl<D: Disk> Store<D> {
         ensures opened { IfOk result (λ store. (k : List Entry) × Stands ⟦<D as Disk>⟧ store k [] × IsLegalUnder (terms_of store) k []
             × (D.tells → (loading host (new_area limit) (D.seen disk) ≡ Ok k) × OpensTo host (new_area limit) k (D.seen disk))) }
 
+        // The areas of its journal have the size that they have on the disk, or that of a new journal where the disk is blank.
+        ensures area { D.tells → IfOk result (λ store. IsOfArea host (new_area limit) (area_of store) (D.seen disk)) }
+
         // A fault of the format is what the bytes say, and a fault of the disk comes only where its count rose.
         ensures says { D.tells → IfErr result (λ failed. IsSaidBy (loading host (new_area limit) (D.seen disk)) failed.1) }
         ensures cause { IfErr result (λ failed. IsCounted (D.count disk) (D.count failed.0) failed.1) }
+        ensures count { IfOk result (λ store. D.count (disk_of store) ≡ D.count disk) }
+
+        // A disk whose calls all pass tells no fault, and its calls pass from then on.
+        ensures passes { ((n : ℕ) → D.passes disk n) → IfOk result (λ store. (n : ℕ) → D.passes (disk_of store) n) }
+        ensures unfailing { ((n : ℕ) → D.passes disk n) → IfErr result (λ failed. IsNoDiskFault failed.1) }
 
         // A crash at any moment leaves what it might have left before the call or, from the first sync on, what opens to
         // the same list.

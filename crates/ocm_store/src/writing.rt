@@ -42,7 +42,7 @@ pub(crate) fn write_change<D: Disk>(
 
     // A crash at any moment of the call leaves the history with the change or without it.
     ensures any_moment { D.tells → (g : List Entry) (ask : Ask) → IsChange history.now g ask planned.now (form_of journal.old) draft.now
-        → let host = home_of history.now in IsWritten ⟦<D as Disk>⟧ host g journal.old → LeavesOnly D.moment D.left_since (disk_of journal.old) (disk_of journal.new) (IsWithOrWithout host g ask) }
+        → let host = home_of history.now in IsWritten ⟦<D as Disk>⟧ host g journal.old → LeavesOnly D.moment D.left_since (disk_of journal.old) (disk_of journal.new) (IsWithOrWithout host (area_of journal.old) g ask) }
 
     // A change that fits is not answered `Full`.
     ensures not_full { (g : List Entry) (ask : Ask) → IsChange history.now g ask planned.now (form_of journal.old) draft.now
@@ -79,7 +79,7 @@ fn write_anew<D: Disk>(
         → let host = home_of history.now in IsWritten ⟦<D as Disk>⟧ host g journal.old → OnOk result (IsWritten ⟦<D as Disk>⟧ host (heard host g ask ∷ g) journal.new) }
     ensures unwritten { D.tells → (g : List Entry) → let host = home_of history.now in IsWritten ⟦<D as Disk>⟧ host g journal.old → IfErr result (λ fault. IsNoDiskFault fault → IsWritten ⟦<D as Disk>⟧ host g journal.new) }
     ensures any_moment { D.tells → (g : List Entry) (ask : Ask) (form : ℕ) (draft : Draft) → IsChange history.now g ask planned.now form draft → newest.now ≡ draft.newest
-        → let host = home_of history.now in IsWritten ⟦<D as Disk>⟧ host g journal.old → LeavesOnly D.moment D.left_since (disk_of journal.old) (disk_of journal.new) (IsWithOrWithout host g ask) }
+        → let host = home_of history.now in IsWritten ⟦<D as Disk>⟧ host g journal.old → LeavesOnly D.moment D.left_since (disk_of journal.old) (disk_of journal.new) (IsWithOrWithout host (area_of journal.old) g ask) }
     ensures not_full { (g : List Entry) (ask : Ask) (form : ℕ) (draft : Draft) → IsChange history.now g ask planned.now form draft → newest.now ≡ draft.newest
         → FitsInto (area_of journal.old) history.now g ask → ¬ IsErrOf result WriteFault.Full }
     ensures fault { IfErr result (HasCount (D.count (disk_of journal.old)) (D.count (disk_of journal.new))) }

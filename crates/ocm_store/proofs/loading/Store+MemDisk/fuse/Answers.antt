@@ -6,5 +6,5 @@ use Rattle.ocm_store.proofs.loading.Store+MemDisk.fuse.Goals as goal
 
 pub returns-clause-stands : goal.returns-clause-stands
 returns-clause-stands c = λ k h s.
-    fused-stands ghosts c.args.self.now _ k h refl refl c.fuse.ensures.shape.1 (ap (λ (d : MemDisk). ghosts.seen d) c.fuse.ensures.disk) (ap (λ (d : MemDisk). ghosts.count d) c.fuse.ensures.disk)
+    fused-stands ghosts c.args.self.now _ k h refl refl c.fuse.ensures.shape (ap (λ (d : MemDisk). ghosts.seen d) c.fuse.ensures.disk) (ap (λ (d : MemDisk). ghosts.count d) c.fuse.ensures.disk)
     (λ x left. subst (λ (d : MemDisk). ghosts.may_leave d x) c.fuse.ensures.disk left) c.fuse.ensures.stands s

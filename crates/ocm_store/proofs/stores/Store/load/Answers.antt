@@ -2,10 +2,12 @@ use Rattle.std.proofs.Common.{◌≡◌, ◌⊎◌, ◌∙◌, List, ℕ, sym, s
 use Rattle.std.specs.Prelude.{IfOk}
 use Rattle.ocm_disk.specs.Disk.{LeavesOnly}
 use Rattle.ocm_image.specs.Layout.{IsLabel}
+use Rattle.ocm_journal.specs.Journals as journals
 use Rattle.ocm_journal.specs.Openings.{StaysAsItOpens, new_area, opening}
 use Rattle.ocm_journal.specs.Openings as openings
-use Rattle.ocm_store.specs.Opening.{IsSaidBy, loading}
-use Rattle.ocm_store.proofs.Opened.{IsLoaded, IsReplayed, all-opened, all-said, host-label, moments-err, moments-ok, replayed-all, said-opening, wider}
+use Rattle.ocm_law_sessions.specs.Readings.{refused_at}
+use Rattle.ocm_store.specs.Opening.{IsNoDiskFault, IsOfArea, IsSaidBy, loading}
+use Rattle.ocm_store.proofs.Opened.{IsLoaded, IsReplayed, all-kept, all-opened, all-said, host-label, moments-err, moments-ok, of-area, opened-no_fault, replayed-all, replayed-no_fault, said-opening, wider}
 use Rattle.ocm_store.proofs.stores.Store.load.Given.{Over}
 use Rattle.ocm_store.proofs.stores.Store.load.Goals as goal
 
@@ -19,7 +21,7 @@ loaded : (g : Over) (c : goal.After-drop-records-inside g) → IsLoaded g.D.Disk
 loaded g c =
     let same : c.as_bytes.result.now ≡ c.args.host = c.as_bytes.ensures.value ∙ c.as_str.ensures ∙ c.text.ensures.text in
     subst (λ (label : List ℕ). IsLoaded g.D.Disk label (new_area c.args.limit) c.args.disk c.in-Ok.journal c.in-Ok.records) same
-    (record { reads = c.in-Ok.ensures.reads; holds = c.in-Ok.ensures.stands; same = c.in-Ok.ensures.same; moments = c.in-Ok.ensures.moments_ok })
+    (record { reads = c.in-Ok.ensures.reads; holds = c.in-Ok.ensures.stands; made = c.in-Ok.ensures.made; same = c.in-Ok.ensures.same; moments = c.in-Ok.ensures.moments_ok })
 
 replayed : (g : Over) (c : goal.After-drop-records-inside g) → IfOk c.replay.result (IsReplayed g.D.Disk c.args.host c.in-Ok.journal c.in-Ok.records)
 replayed g c = replayed-all g.D.Disk c.args.host c.in-Ok.journal c.in-Ok.records c.replay.result c.replay.ensures.host c.replay.ensures.journal c.replay.ensures.memory c.replay.ensures.goes
@@ -29,6 +31,18 @@ returns-in-Ok-clause-opened g c = all-opened (loaded g c) g.met.D.Disk.reads_an_
 
 pub returns-in-Ok-clause-says : goal.returns-in-Ok-clause-says
 returns-in-Ok-clause-says g c = λ tells. all-said (loaded g c) tells c.replay.result c.replay.ensures.refused
+
+pub returns-in-Ok-clause-area : goal.returns-in-Ok-clause-area
+returns-in-Ok-clause-area g c = λ tells. all-kept (loaded g c) (λ j. IsOfArea c.args.host (new_area c.args.limit) (journals.area_of j) (g.D.Disk.seen c.args.disk)) (of-area (loaded g c) tells) c.replay.result c.replay.ensures.journal
+
+pub returns-in-Ok-clause-count : goal.returns-in-Ok-clause-count
+returns-in-Ok-clause-count g c = all-kept (loaded g c) (λ j. g.D.Disk.count (journals.disk_of j) ≡ g.D.Disk.count c.args.disk) c.in-Ok.ensures.count c.replay.result c.replay.ensures.journal
+
+pub returns-in-Ok-clause-passes : goal.returns-in-Ok-clause-passes
+returns-in-Ok-clause-passes g c = λ pass. all-kept (loaded g c) (λ j. (n : ℕ) → g.D.Disk.passes (journals.disk_of j) n) (c.in-Ok.ensures.passes pass) c.replay.result c.replay.ensures.journal
+
+pub returns-in-Ok-clause-unfailing : goal.returns-in-Ok-clause-unfailing
+returns-in-Ok-clause-unfailing g c = λ pass. replayed-no_fault (refused_at c.args.host (journals.form_of c.in-Ok.journal) c.in-Ok.records) c.replay.result c.replay.ensures.refused
 
 pub returns-in-Ok-clause-moments_ok : goal.returns-in-Ok-clause-moments_ok
 returns-in-Ok-clause-moments_ok g c = λ tells. moments-ok (loaded g c) tells c.replay.result c.replay.ensures.journal
@@ -43,6 +57,9 @@ returns-in-Err-clause-says g c = λ tells.
     let same : c.as_bytes.result.now ≡ c.args.host = c.as_bytes.ensures.value ∙ c.as_str.ensures ∙ c.text.ensures.text in
     subst (IsSaidBy (loading c.args.host area seen)) (sym c.from.ensures)
     (said-opening c.args.host area seen c.in-Err.fault (subst (λ (label : List ℕ). openings.IsSaidBy (opening label area seen) c.in-Err.fault) same (c.in-Err.ensures.says tells)))
+
+pub returns-in-Err-clause-unfailing : goal.returns-in-Err-clause-unfailing
+returns-in-Err-clause-unfailing g c = λ pass. subst IsNoDiskFault (sym c.from.ensures) (opened-no_fault c.in-Err.fault (c.in-Err.ensures.unfailing pass))
 
 pub returns-in-Err-clause-moments_err : goal.returns-in-Err-clause-moments_err
 returns-in-Err-clause-moments_err g c = λ tells.
