@@ -1,0 +1,16 @@
+pub mod Texts
+pub mod Owners
+pub mod Growth
+pub mod Taken
+pub mod Accepting
+pub mod Confirming
+pub mod Steps
+pub mod Truths
+pub mod Reached
+pub mod Laws
+pub mod Changes
+pub mod Hearing
+pub mod Telling
+pub mod Owning
+pub mod Worked
+pub mod Unmade
