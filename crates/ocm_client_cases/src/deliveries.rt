@@ -1,0 +1,62 @@
+//! Deliveries of offers and notifications.
+use ocm_pump::{Answered, MemDial, deliver};
+use ocm_records::{read_notice, read_offer};
+use ocm_types::{Host, Letter, Numbered};
+use std::alloc::Global;
+
+/// The status with which the offer of this record was answered at `localhost:8081`, and the id that came with it.
+pub fn offer_told(alloc: Global, dial: &mut MemDial, record: &str) -> Option<String> {
+    match read_offer(alloc, record.as_bytes()) {
+        Ok(offer) => letter_told(alloc, dial, Letter::Offer(offer)),
+        Err(_) => None,
+    }
+}
+
+/// The same of the notification of this record.
+pub fn notice_told(alloc: Global, dial: &mut MemDial, record: &str) -> Option<String> {
+    match read_notice(alloc, record.as_bytes()) {
+        Ok(notice) => letter_told(alloc, dial, Letter::Notice(notice)),
+        Err(_) => None,
+    }
+}
+
+fn letter_told(alloc: Global, dial: &mut MemDial, letter: Letter) -> Option<String> {
+    match Host::read(alloc, "localhost:8081") {
+        Ok(to) => message_told(alloc, dial, message(to, letter)),
+        Err(_) => {
+            drop(letter);
+            None
+        }
+    }
+}
+
+fn message(to: Host, letter: Letter) -> Numbered {
+    Numbered {
+        number: 1,
+        to,
+        letter,
+    }
+}
+
+fn message_told(alloc: Global, dial: &mut MemDial, message: Numbered) -> Option<String> {
+    let answered = deliver(alloc, dial, &message);
+    drop(message);
+    match answered {
+        Ok(answered) => answered_told(alloc, answered),
+        Err(fault) => format!(in alloc; "{fault:?}").ok(),
+    }
+}
+
+fn answered_told(alloc: Global, answered: Answered) -> Option<String> {
+    let told = status_told(alloc, &answered);
+    drop(answered);
+    told
+}
+
+fn status_told(alloc: Global, answered: &Answered) -> Option<String> {
+    let status = answered.status;
+    match &answered.id {
+        Some(id) => format!(in alloc; "{status} with {}", id.as_str()).ok(),
+        None => format!(in alloc; "{status}").ok(),
+    }
+}
