@@ -5,7 +5,7 @@ use Rattle.ocm_entry.specs.declared.asks.Cmd.TheVariants as commands
 use Rattle.ocm_script.specs.declared.events.Body.{Body}
 use Rattle.ocm_script.specs.declared.events.Body.TheVariants.{Given, Fill}
 use Rattle.ocm_script.specs.declared.events.Event.{Event}
-use Rattle.ocm_script.specs.declared.events.Event.TheVariants.{Quiet, Node, User, Local, Dav, Put, Carry, Clock, Offer, Notice, Deliver, Pump}
+use Rattle.ocm_script.specs.declared.events.Event.TheVariants.{Quiet, Node, User, Local, Dav, Put, Carry, Clock, Offer, Notice, Raw, Deliver, Pump, Fuse, Crash}
 
 -- the bytes that a body stands for
 abbrev pub bytes_of : Body → List ℕ
@@ -24,8 +24,11 @@ host_of (Carry host secret from to moving overwrite) = Some host
 host_of (Clock host clock) = Some host
 host_of (Offer host offer) = Some host
 host_of (Notice host fresh notice) = Some host
+host_of (Raw host fresh bytes) = Some host
 host_of (Deliver host number fresh lost) = Some host
 host_of (Pump host fresh) = Some host
+host_of (Fuse host calls) = Some host
+host_of (Crash host left) = Some host
 
 -- the host of the server that an event makes, if it makes one
 abbrev pub node_of : Event → Option (List ℕ)

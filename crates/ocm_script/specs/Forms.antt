@@ -10,10 +10,11 @@ use Rattle.ocm_entry.specs.declared.asks.Method.TheVariants as methods
 use Rattle.ocm_records.specs.Offers.{offer}
 use Rattle.ocm_records.specs.Notices.{notice}
 use Rattle.ocm_records.specs.Rows.{record_of}
-use Rattle.ocm_script.specs.Words.{◌▸◌, ends, remaining, known, new_host, name_word, secret_word, fresh_word, address_word, perms_word, perms_if_word, number_word, most_number, path_word, overwrite_word}
+use Rattle.ocm_script.specs.Words.{◌▸◌, ends, remaining, known, new_host, name_word, secret_word, fresh_word, address_word, perms_word, perms_if_word, number_word, most_number, path_word, digits_word, overwrite_word, crash_word}
 use Rattle.ocm_script.specs.Bodies.{body_of}
+use Rattle.ocm_disk.specs.declared.crashes.Crash.TheVariants as crashes
 use Rattle.ocm_script.specs.declared.events.Event.{Event}
-use Rattle.ocm_script.specs.declared.events.Event.TheVariants.{Node, User, Local, Dav, Put, Carry, Clock, Offer, Notice, Deliver, Pump}
+use Rattle.ocm_script.specs.declared.events.Event.TheVariants.{Node, User, Local, Dav, Put, Carry, Clock, Offer, Notice, Raw, Deliver, Pump, Fuse, Crash}
 
 -- how the words behind the first are read, where lines before named these hosts
 abbrev pub Reading : Type 0
@@ -87,6 +88,10 @@ offer_line named = known named ▸ λ h. remaining (λ j. Some (Offer h (record_
 unfoldable pub notice_line : Reading
 notice_line named = known named ▸ λ h. fresh_word ▸ λ f. remaining (λ j. Some (Notice h f (record_of notice j)))
 
+-- raw HOST FRESH DIGITS
+unfoldable pub raw_line : Reading
+raw_line named = known named ▸ λ h. fresh_word ▸ λ f. digits_word ▸ λ b. ends (Raw h f b)
+
 -- deliver or lost HOST NUMBER FRESH
 unfoldable pub deliver_line : Bool → Reading
 deliver_line lost named = known named ▸ λ h. number_word most_number ▸ λ i. fresh_word ▸ λ f. ends (Deliver h i f lost)
@@ -94,6 +99,18 @@ deliver_line lost named = known named ▸ λ h. number_word most_number ▸ λ i
 -- pump HOST FRESH
 unfoldable pub pump_line : Reading
 pump_line named = known named ▸ λ h. fresh_word ▸ λ f. ends (Pump h f)
+
+-- fuse HOST CALLS
+unfoldable pub fuse_line : Reading
+fuse_line named = known named ▸ λ h. number_word most_number ▸ λ i. ends (Fuse h i)
+
+-- crash HOST, and old, new or torn
+unfoldable pub crash_line : Reading
+crash_line named = known named ▸ λ h. crash_word ▸ λ m. ends (Crash h m)
+
+-- restart HOST: the same as crash HOST new
+unfoldable pub restart_line : Reading
+restart_line named = known named ▸ λ h. ends (Crash h crashes.New)
 
 -- a form: the first word, and how the rest is read
 abbrev pub Form : Type 0
@@ -132,17 +149,21 @@ abbrev pub letter_forms : List Form
 letter_forms =
     (codes "offer", offer_line)
     ∷ (codes "notice", notice_line)
+    ∷ (codes "raw", raw_line)
     ∷ (codes "deliver", deliver_line false)
     ∷ (codes "lost", deliver_line true)
     ∷ (codes "pump", pump_line)
     ∷ []
 
--- the forms that make a server, give it a user, and tell it the time
+-- the forms that make a server, tell it the time, and stop it
 abbrev pub server_forms : List Form
 server_forms =
     (codes "node", node_line)
     ∷ (codes "user", user_line)
     ∷ (codes "clock", clock_line)
+    ∷ (codes "fuse", fuse_line)
+    ∷ (codes "crash", crash_line)
+    ∷ (codes "restart", restart_line)
     ∷ []
 
 -- a line by the first of these forms whose word it begins with

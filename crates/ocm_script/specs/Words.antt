@@ -11,6 +11,8 @@ use Rattle.ocm_types.specs.Addresses.{canonical_address_of}
 use Rattle.ocm_types.specs.declared.addresses.Address.{Address}
 use Rattle.ocm_types.specs.declared.rights.Rights.{Rights}
 use Rattle.ocm_path.specs.Paths.{path_given}
+use Rattle.ocm_disk.specs.declared.crashes.Crash.{Crash}
+use Rattle.ocm_disk.specs.declared.crashes.Crash.TheVariants.{Old, New, Torn}
 use Rattle.ocm_script.specs.declared.events.Event.{Event}
 
 -- one reading after another, as long as each gives something
@@ -114,6 +116,13 @@ unfoldable pub overwrite_word : List ℕ → Option Bool
 overwrite_word word =
     if bytes_eq word (codes "overwrite") then Some true
     else (if bytes_eq word (codes "keep") then Some false else None)
+
+-- what a crash leaves: `old`, `new` or `torn`
+unfoldable pub crash_word : List ℕ → Option Crash
+crash_word word =
+    if bytes_eq word (codes "old") then Some Old
+    else (if bytes_eq word (codes "new") then Some New
+    else (if bytes_eq word (codes "torn") then Some Torn else None))
 
 -- whether a text begins with `/`
 abbrev pub begins_with_slash : List ℕ → Bool

@@ -2,6 +2,7 @@ ghost use Rattle.std.specs.Prelude.{◌≡◌, IfOk, option_copied};
 ghost use Rattle.ocm_script.specs.Events.{bytes_of, host_of, node_of};
 
 use ocm_base::{Bytes, NoMemory};
+use ocm_disk::Crash;
 use ocm_entry::{Cmd, Method};
 use ocm_path::Path;
 use ocm_records::RecordFault;
@@ -71,6 +72,14 @@ pub enum Event {
         fresh: Fresh,
         notice: Result<Notice, RecordFault>,
     },
+    /// A connection that sends these bytes.
+    Raw {
+        host: Host,
+        /// What the secrets that its messages make are drawn from: this for the first, and one more for each
+        /// further one.
+        fresh: Fresh,
+        bytes: Bytes,
+    },
     /// A message of the server is given to the one that it is for. The reply comes back, or is lost.
     Deliver {
         host: Host,
@@ -85,6 +94,16 @@ pub enum Event {
         host: Host,
         /// What the secret of a share that the first makes is drawn from; one more for each further one.
         fresh: Fresh,
+    },
+    /// The server's disk fails once it was called so often.
+    Fuse {
+        host: Host,
+        calls: u32,
+    },
+    /// The server is dropped, its disk crashes, and it is loaded again.
+    Crash {
+        host: Host,
+        left: Crash,
     },
 }
 
@@ -128,8 +147,11 @@ impl Event {
             | Event::Clock { host, .. }
             | Event::Offer { host, .. }
             | Event::Notice { host, .. }
+            | Event::Raw { host, .. }
             | Event::Deliver { host, .. }
-            | Event::Pump { host, .. } => Some(host),
+            | Event::Pump { host, .. }
+            | Event::Fuse { host, .. }
+            | Event::Crash { host, .. } => Some(host),
         }
     }
 

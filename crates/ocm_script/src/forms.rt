@@ -11,8 +11,8 @@ use crate::command_lines::{
 use crate::events::Event;
 use crate::faults::LineFault;
 use crate::file_lines::{carry_line, dav_line, put_line};
-use crate::letter_lines::{deliver_line, notice_line, offer_line, pump_line};
-use crate::server_lines::{clock_line, node_line, user_line};
+use crate::letter_lines::{deliver_line, notice_line, offer_line, pump_line, raw_line};
+use crate::server_lines::{clock_line, crash_line, fuse_line, node_line, restart_line, user_line};
 use crate::words::{cut, is_word};
 use ocm_entry::Method;
 use ocm_types::Host;
@@ -21,7 +21,7 @@ use std::alloc::Global;
 /// The most bytes of a line, without its line feed.
 const MOST_LINE_BYTES: usize = 4096;
 
-/// The event of a line that makes a server, gives it a user or tells it the time.
+/// The event of a line that makes a server, tells it the time or stops it.
 fn server_form(
     alloc: Global,
     named: &[Host],
@@ -38,6 +38,12 @@ fn server_form(
         user_line(alloc, named, rest)
     } else if is_word(first, b"clock") {
         clock_line(named, rest)
+    } else if is_word(first, b"fuse") {
+        fuse_line(named, rest)
+    } else if is_word(first, b"crash") {
+        crash_line(named, rest)
+    } else if is_word(first, b"restart") {
+        restart_line(named, rest)
     } else {
         Err(LineFault::Bad)
     }
@@ -58,6 +64,8 @@ fn letter_form(
         offer_line(alloc, named, rest)
     } else if is_word(first, b"notice") {
         notice_line(alloc, named, rest)
+    } else if is_word(first, b"raw") {
+        raw_line(alloc, named, rest)
     } else if is_word(first, b"deliver") {
         deliver_line(named, false, rest)
     } else if is_word(first, b"lost") {

@@ -69,6 +69,20 @@ pub fn notice_line(alloc: Global, named: &[Host], rest: Option<&[u8]>) -> Result
     })
 }
 
+/// `raw HOST FRESH DIGITS`: a connection that sends the bytes of the digits.
+#[tactic(auto, unfolding(crate::specs::Forms::raw_line, crate::specs::Words::next))]
+pub fn raw_line(alloc: Global, named: &[Host], rest: Option<&[u8]>) -> Result<Event, LineFault>
+    ensures exact { Gives (λ x. x) result (forms.raw_line named.now (option_copied rest.entry)) }
+    ensures short { IfOk result (λ event. IsTrue (has_short_paths event)) }
+{
+    let (host, rest) = next_host(named, rest)?;
+    let (host, (fresh, rest)) = and(host, word(rest))?;
+    let (host, fresh) = and(host, fresh_word(fresh))?;
+    let (host, (bytes, rest)) = and(host, next_digits(alloc, rest))?;
+    let ((host, bytes), ()) = and((host, bytes), ended(rest))?;
+    Ok(Event::Raw { host, fresh, bytes })
+}
+
 /// `deliver` or `lost HOST NUMBER FRESH`: a message is given to the server that it is for.
 #[tactic(auto, unfolding(crate::specs::Forms::deliver_line, crate::specs::Words::next))]
 pub fn deliver_line(named: &[Host], lost: bool, rest: Option<&[u8]>) -> Result<Event, LineFault>

@@ -27,9 +27,13 @@
 //! clock HOST NUMBER                             the time, in seconds since the epoch
 //! offer HOST J                                  an offer that no server sent
 //! notice HOST FRESH J                           a notification that no server sent
+//! raw HOST FRESH DIGITS                         a connection that sends these bytes
 //! deliver HOST NUMBER FRESH                     a message is given to the server that it is for
 //! lost HOST NUMBER FRESH                        the same, and the reply does not come back
 //! pump HOST FRESH                               all messages that are due are given to their servers
+//! fuse HOST NUMBER                              the server's disk fails once it was called so often
+//! crash HOST old                                the server's disk crashes; or `new`, `torn`
+//! restart HOST                                  the same as `crash HOST new`
 //! ```
 //!
 //! `node` names a canonical host that no line before it names, and elsewhere HOST is one that an earlier
@@ -54,4 +58,5 @@ mod words;
 
 pub use events::{Body, Event};
 pub use faults::ScriptFault;
+pub use ocm_disk::Crash;
 pub use scripts::read_script;

@@ -7,10 +7,11 @@ ghost use Rattle.ocm_script.specs.Gives.{Gives};
 
 use crate::faults::LineFault;
 use crate::words::{
-    address_word, digits_word, known, name_word, new_host, number_word, overwrite_word, path_word,
-    secret_word, word,
+    address_word, crash_word, digits_word, known, name_word, new_host, number_word, overwrite_word,
+    path_word, secret_word, word,
 };
 use ocm_base::Bytes;
+use ocm_disk::Crash;
 use ocm_path::Path;
 use ocm_types::{Address, Host, Name, Secret};
 use std::alloc::Global;
@@ -112,6 +113,17 @@ pub fn next_overwrite(rest: Option<&[u8]>) -> Result<(bool, Option<&[u8]>), Line
     let (word, rest) = word(rest)?;
     let overwrite = overwrite_word(word)?;
     Ok((overwrite, rest))
+}
+
+/// The next word as what a crash leaves.
+#[tactic(auto, unfolding(crate::specs::Words::next))]
+pub fn next_crash(rest: Option<&[u8]>) -> Result<(Crash, Option<&[u8]>), LineFault>
+    ensures { Gives (λ x. (x.0, option_copied x.1)) result
+        (words.next words.crash_word (option_copied rest.entry)) }
+{
+    let (word, rest) = word(rest)?;
+    let left = crash_word(word)?;
+    Ok((left, rest))
 }
 
 /// The next word as the bytes that digits spell.

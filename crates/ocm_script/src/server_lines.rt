@@ -1,4 +1,4 @@
-//! The lines that make a server, give it a user, and tell it the time.
+//! The lines that make a server, tell it the time, and stop it.
 
 ghost use Rattle.std.specs.Prelude.{IfOk, IsTrue, option_copied};
 ghost use Rattle.ocm_script.specs.Events.{has_short_paths};
@@ -7,9 +7,10 @@ ghost use Rattle.ocm_script.specs.Gives.{Gives};
 
 use crate::events::Event;
 use crate::faults::LineFault;
-use crate::next_words::{next_host, next_name, next_new_host, next_number};
+use crate::next_words::{next_crash, next_host, next_name, next_new_host, next_number};
 use crate::words::{ended, fresh_word, word};
 use ocm_base::and;
+use ocm_disk::Crash;
 use ocm_types::Host;
 use std::alloc::Global;
 
@@ -48,4 +49,42 @@ pub fn clock_line(named: &[Host], rest: Option<&[u8]>) -> Result<Event, LineFaul
     let (host, (clock, rest)) = and(host, next_number(rest))?;
     let (host, ()) = and(host, ended(rest))?;
     Ok(Event::Clock { host, clock })
+}
+
+/// `fuse HOST CALLS`: the server's disk fails once it was called so often.
+#[tactic(auto, unfolding(crate::specs::Forms::fuse_line))]
+pub fn fuse_line(named: &[Host], rest: Option<&[u8]>) -> Result<Event, LineFault>
+    ensures exact { Gives (λ x. x) result (forms.fuse_line named.now (option_copied rest.entry)) }
+    ensures short { IfOk result (λ event. IsTrue (has_short_paths event)) }
+{
+    let (host, rest) = next_host(named, rest)?;
+    let (host, (calls, rest)) = and(host, next_number(rest))?;
+    let (host, ()) = and(host, ended(rest))?;
+    Ok(Event::Fuse { host, calls })
+}
+
+/// `crash HOST LEFT`: the server's disk crashes, and it is loaded again.
+#[tactic(auto, unfolding(crate::specs::Forms::crash_line))]
+pub fn crash_line(named: &[Host], rest: Option<&[u8]>) -> Result<Event, LineFault>
+    ensures exact { Gives (λ x. x) result (forms.crash_line named.now (option_copied rest.entry)) }
+    ensures short { IfOk result (λ event. IsTrue (has_short_paths event)) }
+{
+    let (host, rest) = next_host(named, rest)?;
+    let (host, (left, rest)) = and(host, next_crash(rest))?;
+    let (host, ()) = and(host, ended(rest))?;
+    Ok(Event::Crash { host, left })
+}
+
+/// `restart HOST`: the same as a crash that leaves all that was written.
+#[tactic(auto, unfolding(crate::specs::Forms::restart_line))]
+pub fn restart_line(named: &[Host], rest: Option<&[u8]>) -> Result<Event, LineFault>
+    ensures exact { Gives (λ x. x) result (forms.restart_line named.now (option_copied rest.entry)) }
+    ensures short { IfOk result (λ event. IsTrue (has_short_paths event)) }
+{
+    let (host, rest) = next_host(named, rest)?;
+    let (host, ()) = and(host, ended(rest))?;
+    Ok(Event::Crash {
+        host,
+        left: Crash::New,
+    })
 }

@@ -6,6 +6,7 @@ ghost use Rattle.ocm_script.specs.Gives.{Gives};
 
 use crate::faults::LineFault;
 use ocm_base::{Bytes, HexFault, NoMemory, decimal_read, hex_read};
+use ocm_disk::Crash;
 use ocm_path::{Path, PathFault};
 use ocm_types::{Address, Fresh, Host, Name, Perms, Secret, TextFault};
 use std::alloc::Global;
@@ -223,6 +224,22 @@ pub fn overwrite_word(word: &[u8]) -> Result<bool, LineFault>
         Ok(true)
     } else if is_word(word, b"keep") {
         Ok(false)
+    } else {
+        Err(LineFault::Bad)
+    }
+}
+
+/// What a crash leaves: `old`, `new` or `torn`.
+#[tactic(auto, unfolding(crate::specs::Words::crash_word))]
+pub fn crash_word(word: &[u8]) -> Result<Crash, LineFault>
+    ensures { Gives (λ left. left) result (words.crash_word word.now) }
+{
+    if is_word(word, b"old") {
+        Ok(Crash::Old)
+    } else if is_word(word, b"new") {
+        Ok(Crash::New)
+    } else if is_word(word, b"torn") {
+        Ok(Crash::Torn)
     } else {
         Err(LineFault::Bad)
     }

@@ -4,3 +4,8 @@ pub mod Posts
 pub mod Scripts
 pub mod Properly
 pub mod Acting
+pub mod Loading
+pub mod Storing
+pub mod Shelving
+pub mod Talking
+pub mod Paging

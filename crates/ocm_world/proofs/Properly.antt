@@ -5,7 +5,7 @@ use Rattle.ocm_entry.specs.declared.asks.Cmd.TheVariants as commands
 use Rattle.ocm_entry.specs.declared.asks.Method.TheVariants as methods
 use Rattle.ocm_entry.specs.Proper.{is_body_of, is_short}
 use Rattle.ocm_script.specs.declared.events.Event.{Event}
-use Rattle.ocm_script.specs.declared.events.Event.TheVariants.{Quiet, Node, User, Local, Dav, Put, Carry, Clock, Offer, Notice, Deliver, Pump}
+use Rattle.ocm_script.specs.declared.events.Event.TheVariants.{Quiet, Node, User, Local, Dav, Put, Carry, Clock, Offer, Notice, Raw, Deliver, Pump, Fuse, Crash}
 use Rattle.ocm_script.specs.Events.{bytes_of, has_short_paths}
 use Rattle.ocm_world.specs.Asked.{asks_properly}
 
@@ -43,6 +43,9 @@ proper-line (Notice host fresh (Ok notice)) h = refl
 proper-line (Notice host fresh (Err fault)) h = refl
 proper-line (Deliver host number fresh lost) h = refl
 proper-line (Pump host fresh) h = refl
+proper-line (Raw host fresh bytes) h = refl
+proper-line (Fuse host calls) h = refl
+proper-line (Crash host left) h = refl
 
 apart : (a b : Bool) → (a && b) ≡ true → (a ≡ true) × (b ≡ true)
 apart true true k = (refl, refl)

@@ -8,7 +8,6 @@ use Rattle.ocm_types.specs.declared.letters.Letter.{Letter}
 use Rattle.ocm_types.specs.declared.letters.Letter.TheVariants as letters
 use Rattle.ocm_entry.specs.declared.asks.Ask.{Ask}
 use Rattle.ocm_entry.specs.declared.asks.Ask.TheVariants as asks
-use Rattle.ocm_entry.specs.declared.asks.Method.{Method}
 use Rattle.ocm_entry.specs.declared.asks.Method.TheVariants as methods
 use Rattle.ocm_entry.specs.Proper.{is_proper}
 use Rattle.ocm_records.specs.declared.faults.RecordFault.{RecordFault}
@@ -34,7 +33,6 @@ ask_of (events.Local host key cmd) = Some (asks.Local key cmd)
 ask_of (events.Dav host secret method path) = Some (asks.Dav secret method path [])
 ask_of (events.Put host secret path body) = Some (asks.Dav secret methods.Put path (bytes_of body))
 ask_of (events.Carry host secret from to moving overwrite) = Some (asks.Carry secret from to moving overwrite)
-ask_of (events.Clock host clock) = Some (asks.Tick clock)
 ask_of (events.Offer host offer) = offer_ask offer
 ask_of (events.Notice host fresh notice) = notice_ask fresh notice
 ask_of _ = None

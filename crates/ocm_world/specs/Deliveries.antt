@@ -8,7 +8,7 @@ use Rattle.ocm_entry.specs.declared.asks.Ask.TheVariants.{Due, Settle}
 use Rattle.ocm_entry.specs.declared.replies.Reply.{Reply}
 use Rattle.ocm_entry.specs.declared.replies.Reply.TheVariants as replies
 use Rattle.ocm_entry.specs.Refusals.{status_of}
-use Rattle.ocm_transcript.specs.Texts.{line_text, reply_text, reply_lines, told_line}
+use Rattle.ocm_transcript.specs.Texts.{line_text, reply_lines, told_line}
 use Rattle.ocm_world.specs.Asked.{letter_ask}
 use Rattle.ocm_world.specs.Servers.{World, asked_at, message_at, reply_at}
 

@@ -28,7 +28,15 @@ pub fn ask_of(alloc: Global, event: &Event) -> Result<Option<Ask>, NoMemory>
             fresh: _,
             lost: _,
         }
-        | Event::Pump { host: _, fresh: _ } => Ok(None),
+        | Event::Pump { host: _, fresh: _ }
+        | Event::Raw {
+            host: _,
+            fresh: _,
+            bytes: _,
+        }
+        | Event::Clock { host: _, clock: _ }
+        | Event::Fuse { host: _, calls: _ }
+        | Event::Crash { host: _, left: _ } => Ok(None),
         Event::User {
             host: _,
             name,
@@ -55,9 +63,6 @@ pub fn ask_of(alloc: Global, event: &Event) -> Result<Option<Ask>, NoMemory>
             moving,
             overwrite,
         } => carry_ask(secret, from, to, *moving, *overwrite),
-        Event::Clock { host: _, clock } => Ok(Some(Ask::Tick {
-            clock: *clock as u64,
-        })),
         Event::Offer { host: _, offer } => offer_ask(offer),
         Event::Notice {
             host: _,

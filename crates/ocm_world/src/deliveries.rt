@@ -60,10 +60,7 @@ pub fn pump(
 fn due_of(servers: &mut Servers, sender: &Host) -> Option<Reply>
     ensures { (world : World) → AreOf servers.old world → Asks world servers.new sender.now asks.Due result }
 {
-    let due = Ask::Due;
-    let reply = servers.ask(sender, &due);
-    drop(due);
-    reply
+    servers.ask(sender, Ask::Due)
 }
 
 /// As [`pumped`], and lets the answer go.
@@ -144,9 +141,7 @@ fn delivered(
     ensures { IfOk result (λ text. (world : World) → AreOf servers.old world → Runs (λ wanting. deliveries.delivered wanting world line sender.now fresh lost message.now) servers.new text) }
 {
     let ask = letter_ask(&message.letter, fresh)?;
-    let text = given(alloc, servers, line, sender, lost, message, &ask);
-    drop(ask);
-    text
+    given(alloc, servers, line, sender, lost, message, ask)
 }
 
 /// A message of the sender is given to the server that it is for, as this ask.
@@ -157,10 +152,10 @@ fn given(
     sender: &Host,
     lost: bool,
     message: &Numbered,
-    ask: &Ask,
+    ask: Ask,
 ) -> Result<Bytes, NoMemory>
-    requires { IsTrue (is_proper ask.now) }
-    ensures { IfOk result (λ text. (world : World) → AreOf servers.old world → Runs (λ wanting. deliveries.given wanting world line sender.now lost message.now ask.now) servers.new text) }
+    requires { IsTrue (is_proper ask) }
+    ensures { IfOk result (λ text. (world : World) → AreOf servers.old world → Runs (λ wanting. deliveries.given wanting world line sender.now lost message.now ask) servers.new text) }
 {
     match servers.ask(&message.to, ask) {
         Some(reply) => {
@@ -189,9 +184,7 @@ fn answered(
         return Ok(text);
     }
     let ask = settlement(alloc, message.number, reply)?;
-    let text = come_back(alloc, servers, line, text, sender, &ask);
-    drop(ask);
-    text
+    come_back(alloc, servers, line, text, sender, ask)
 }
 
 /// What the sender of a message is told of the reply to it comes to the sender. Its line stands behind a
@@ -202,10 +195,10 @@ fn come_back(
     line: u32,
     front: Bytes,
     sender: &Host,
-    ask: &Ask,
+    ask: Ask,
 ) -> Result<Bytes, NoMemory>
-    requires { IsTrue (is_proper ask.now) }
-    ensures { IfOk result (λ text. (world : World) → AreOf servers.old world → Runs (λ wanting. deliveries.come_back (next_wanting wanting) world line front sender.now ask.now) servers.new text) }
+    requires { IsTrue (is_proper ask) }
+    ensures { IfOk result (λ text. (world : World) → AreOf servers.old world → Runs (λ wanting. deliveries.come_back (next_wanting wanting) world line front sender.now ask) servers.new text) }
 {
     match servers.ask(sender, ask) {
         Some(reply) => with_back(alloc, line, front, sender, reply),

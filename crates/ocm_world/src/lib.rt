@@ -1,11 +1,13 @@
-//! Servers that are run from a script, and the transcript of what they answered.
+//! Servers that are run from a script, each a store on a disk in memory, and the transcript of what they answered.
 #![tactic(auto)]
 
 mod asked;
 mod deliveries;
+mod nodes;
 mod replays;
 mod runs;
 mod servers;
+mod talks;
 
 pub use ocm_script::{Body, Event, ScriptFault, read_script};
 pub use replays::{WorldFault, replay};

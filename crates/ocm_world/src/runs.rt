@@ -7,12 +7,14 @@ ghost use Rattle.ocm_world.specs.Asked as specified;
 ghost use Rattle.ocm_world.specs.Deliveries.{next_wanting};
 ghost use Rattle.ocm_world.specs.Servers.{World};
 ghost use Rattle.ocm_world.specs.Transcript as transcript;
-ghost use Rattle.ocm_world.specs.Running.{AreOf, Runs};
+ghost use Rattle.ocm_world.specs.Transcript.{IsRun};
+ghost use Rattle.ocm_world.specs.Running.{AreOf, Ran, Runs};
 
 use crate::asked::{ask_of, fault_of, fault_text, shows_digits};
 use crate::deliveries::{deliver, pump};
 use crate::servers::Servers;
 use ocm_base::{Bytes, NoMemory};
+use ocm_disk::Crash;
 use ocm_entry::Ask;
 use ocm_script::Event;
 use ocm_transcript::{line_text, reply_lines};
@@ -26,8 +28,9 @@ pub fn run(
     line: u32,
     event: &Event,
 ) -> Result<Bytes, NoMemory>
-    requires { IsTrue (asks_properly event.now) }
-    ensures { IfOk result (λ text. (world : World) → AreOf servers.old world → Runs (λ wanting. transcript.run wanting world line event.now) servers.new text) }
+    requires stands { (world : World) × AreOf servers.old world }
+    requires proper { IsTrue (asks_properly event.now) }
+    ensures { IfOk result (λ text. (world : World) → AreOf servers.old world → Ran (IsRun world line event.now) servers.new text) }
 {
     match event {
         Event::Node { host } => name(alloc, servers, line, host),
@@ -38,6 +41,10 @@ pub fn run(
             lost,
         } => deliver(alloc, servers, line, host, *number, *fresh, *lost),
         Event::Pump { host, fresh } => pump(alloc, servers, line, host, *fresh),
+        Event::Raw { host, fresh, bytes } => servers.talk(line, host, *fresh, bytes),
+        Event::Clock { host, clock } => tell_time(alloc, servers, line, host, *clock),
+        Event::Fuse { host, calls } => fuse(alloc, servers, line, host, *calls),
+        Event::Crash { host, left } => crash(alloc, servers, line, host, *left),
         _ => run_plain(alloc, servers, line, event),
     }
 }
@@ -48,6 +55,62 @@ fn name(alloc: Global, servers: &mut Servers, line: u32, host: &Host) -> Result<
 {
     servers.add(host)?;
     line_text(alloc, line, b"node")
+}
+
+/// The server of this host is told the time.
+fn tell_time(
+    alloc: Global,
+    servers: &mut Servers,
+    line: u32,
+    host: &Host,
+    clock: u32,
+) -> Result<Bytes, NoMemory>
+    ensures { IfOk result (λ text. (world : World) → AreOf servers.old world → Runs (λ wanting. transcript.clocked (next_wanting wanting) world line host.now clock) servers.new text) }
+{
+    let clock = clock as u64;
+    servers.set_clock(host, clock);
+    run_ask(alloc, servers, line, true, host, Ask::Tick { clock })
+}
+
+/// From now on so many device calls pass of the disk of this host's server.
+fn fuse(
+    alloc: Global,
+    servers: &mut Servers,
+    line: u32,
+    host: &Host,
+    calls: u32,
+) -> Result<Bytes, NoMemory>
+    ensures { IfOk result (λ text. (world : World) → AreOf servers.old world → Runs (λ wanting. transcript.fused world line host.now calls) servers.new text) }
+{
+    servers.fuse(host, calls as u64);
+    line_text(alloc, line, b"fuse")
+}
+
+/// The disk of this host's server crashes, and it is loaded again.
+fn crash(
+    alloc: Global,
+    servers: &mut Servers,
+    line: u32,
+    host: &Host,
+    left: Crash,
+) -> Result<Bytes, NoMemory>
+    requires { (world : World) × AreOf servers.old world }
+    ensures { IfOk result (λ text. (world : World) → AreOf servers.old world → Runs (λ wanting. transcript.restarted (next_wanting wanting) world line host.now) servers.new text) }
+{
+    match servers.crash(host, left)? {
+        Some(count) => opened_line(alloc, line, count),
+        None => Ok(Bytes::new(alloc)),
+    }
+}
+
+/// The line of how many entries a server keeps that was loaded again.
+fn opened_line(alloc: Global, line: u32, count: u64) -> Result<Bytes, NoMemory>
+    ensures { IfOk result (λ text. text ≡ transcript.opened_line line count) }
+{
+    let digits = count.to_string(alloc)?;
+    let mut text = Bytes::of(alloc, b"opened ")?;
+    text.add(digits.as_bytes())?;
+    line_text(alloc, line, text.as_slice())
 }
 
 /// A line that asks something of its server, or whose record is faulty, or that is quiet.
@@ -65,11 +128,7 @@ fn run_plain(
         return run_faulty(alloc, line, event);
     };
     match ask_of(alloc, event)? {
-        Some(ask) => {
-            let text = run_ask(alloc, servers, line, shows_digits(event), host, &ask);
-            drop(ask);
-            text
-        }
+        Some(ask) => run_ask(alloc, servers, line, shows_digits(event), host, ask),
         None => run_faulty(alloc, line, event),
     }
 }
@@ -94,10 +153,10 @@ fn run_ask(
     line: u32,
     digits: bool,
     host: &Host,
-    ask: &Ask,
+    ask: Ask,
 ) -> Result<Bytes, NoMemory>
-    requires { IsTrue (is_proper ask.now) }
-    ensures { IfOk result (λ text. (world : World) → AreOf servers.old world → Runs (λ wanting. transcript.asked (next_wanting wanting) world line digits host.now ask.now) servers.new text) }
+    requires { IsTrue (is_proper ask) }
+    ensures { IfOk result (λ text. (world : World) → AreOf servers.old world → Runs (λ wanting. transcript.asked (next_wanting wanting) world line digits host.now ask) servers.new text) }
 {
     match servers.ask(host, ask) {
         Some(reply) => reply_lines(alloc, line, digits, &reply),

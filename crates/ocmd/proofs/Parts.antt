@@ -3,6 +3,7 @@ use Rattle.std.specs.Prelude.{Option, Result, Ok, Err, IfOk}
 use Rattle.std.proofs.lemmas.List.{take-append-drop}
 use mathlib.Core.Logic.{inl, inr}
 use Rattle.ocm_base.specs.Outside.{Appends, AppendsPart}
+use Rattle.ocm_disk.specs.declared.shelf.Place.{Place}
 use Rattle.ocm_audit.specs.Audits.{Audits, WritesFront}
 use Rattle.ocm_script.specs.declared.faults.ScriptFault.TheVariants as ends
 use Rattle.ocm_script.specs.Script.{script_of}
@@ -48,9 +49,9 @@ checked-part kind bytes old new end text le checks part =
     inr (le, end, take part.0 text, drop part.0 text, part.2, subst (λ t. Checks kind bytes end t) (sym (take-append-drop part.0 text)) checks)
 
 -- the line that names where bytes are no journal is what the command writes
-pub named-place : (bytes : List ℕ) (place : ℕ) (old mid new : Option (List ℕ)) (result : Result End Fault) → length bytes ≤ most_bytes commands.Audit → Audits bytes (Err place) → mid ≡ old → IfOk result (λ end. (end ≡ whole.NotJournal) × Appends mid new (not_journal place)) → IfOk result (λ end. Writes commands.Audit bytes end old new)
-named-place bytes place old mid new (Ok end) le audits same named = (le, not_journal place, subst (λ o. Appends o new (not_journal place)) same named.1, (Err place, audits, (named.0, refl)))
-named-place bytes place old mid new (Err fault) le audits same named = tt
+pub named-place : (bytes : List ℕ) (place : ℕ) (old mid new : Option (List ℕ)) (shelf : List Place) (result : Result End Fault) → length bytes ≤ most_bytes commands.Audit → Audits bytes (Err place) → mid ≡ old → IfOk result (λ end. (end ≡ whole.NotJournal) × Appends mid new (not_journal place)) → IfOk result (λ end. Writes commands.Audit bytes end old new shelf)
+named-place bytes place old mid new shelf (Ok end) le audits same named = (le, not_journal place, subst (λ o. Appends o new (not_journal place)) same named.1, (Err place, audits, (named.0, refl)))
+named-place bytes place old mid new shelf (Err fault) le audits same named = tt
 
 -- a front of that line is a front of what the command writes
 pub named-place-part : (bytes : List ℕ) (place : ℕ) (old mid new : Option (List ℕ)) → length bytes ≤ most_bytes commands.Audit → Audits bytes (Err place) → mid ≡ old → AppendsPart mid new (not_journal place) → WritesPart commands.Audit bytes old new

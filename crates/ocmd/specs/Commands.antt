@@ -1,9 +1,12 @@
-use Rattle.std.specs.Prelude.{◌≡◌, ℕ, ◌<◌, ◌≤◌, ◌⊎◌, List, [], ◌∷◌, ◌++◌, length, Option, None, codes, Result, Ok, Err}
+use Rattle.std.specs.Prelude.{◌≡◌, ℕ, ◌<◌, ◌≤◌, ◌⊎◌, List, [], ◌∷◌, ◌++◌, length, Option, Some, None, codes, Result, Ok, Err}
 use Rattle.std.specs.Fmt.{decimal}
 use Rattle.ocm_base.specs.Outside.{Appends}
 use Rattle.ocm_script.specs.declared.events.Event.{Event}
 use Rattle.ocm_script.specs.declared.faults.ScriptFault.TheVariants as ends
 use Rattle.ocm_script.specs.Script.{script_of}
+use Rattle.ocm_disk.specs.declared.shelf.Place.{Place}
+use Rattle.ocm_world.specs.Servers.{World}
+use Rattle.ocm_world.specs.Shelves.{AreShelved}
 use Rattle.ocm_world.specs.Transcript.{Transcript}
 use Rattle.ocmd.specs.declared.ends.End.{End}
 use Rattle.ocmd.specs.declared.ends.End.TheVariants as whole
@@ -23,18 +26,23 @@ usage_line = codes "usage: ocmd replay|audit|check KIND|drill NUMBER EVENTS|serv
 abbrev pub bad_line : ℕ → List ℕ
 bad_line number = codes "bad line " ++ decimal number ++ 10 ∷ []
 
--- A script gives the status 0 and its transcript, and bytes with a line that is no event give the status 2 and the number of the first such line.
-abbrev pub Replays : List ℕ → End → List ℕ → Type 0
-Replays bytes whole.Done text = (events : List Event) × (script_of bytes ≡ Ok events) × Transcript [] 1 events text
-Replays bytes whole.Record text = ⊥
-Replays bytes whole.NotJournal text = ⊥
-Replays bytes whole.Script text = (number : ℕ) × (script_of bytes ≡ Err (ends.Line number)) × (text ≡ bad_line number)
+-- the shelf, where it is told, has the disks of these servers
+abbrev pub IfShelved : Option (List Place) → World → Type 0
+IfShelved (Some places) final = AreShelved final places
+IfShelved None final = Unit {0}
 
--- on these bytes the command has this end, and writes this text
-abbrev pub Gives : Command → List ℕ → End → List ℕ → Type 0
-Gives commands.Replay bytes end text = Replays bytes end text
-Gives commands.Audit bytes end text = AuditsTo bytes end text
-Gives (commands.Check kind) bytes end text = Checks kind bytes end text
+-- A script gives the status 0 and its transcript, and puts the disks of its servers on the shelf. Bytes with a line that is no event give the status 2 and the number of the first such line.
+abbrev pub Replays : List ℕ → End → List ℕ → Option (List Place) → Type 0
+Replays bytes whole.Done text shelf = (events : List Event) × (final : World) × (script_of bytes ≡ Ok events) × Transcript [] 1 events text final × IfShelved shelf final
+Replays bytes whole.Record text shelf = ⊥
+Replays bytes whole.NotJournal text shelf = ⊥
+Replays bytes whole.Script text shelf = (number : ℕ) × (script_of bytes ≡ Err (ends.Line number)) × (text ≡ bad_line number)
+
+-- on these bytes the command has this end, writes this text, and leaves this shelf, where that is told
+abbrev pub Gives : Command → List ℕ → End → List ℕ → Option (List Place) → Type 0
+Gives commands.Replay bytes end text shelf = Replays bytes end text shelf
+Gives commands.Audit bytes end text shelf = AuditsTo bytes end text
+Gives (commands.Check kind) bytes end text shelf = Checks kind bytes end text
 
 -- the bytes are more than the command takes, or a script has too many lines
 abbrev pub IsLong : Command → List ℕ → Type 0
@@ -42,15 +50,15 @@ IsLong commands.Replay bytes = (most_bytes commands.Replay < length bytes) ⊎ (
 IsLong commands.Audit bytes = most_bytes commands.Audit < length bytes
 IsLong (commands.Check kind) bytes = most_bytes (commands.Check kind) < length bytes
 
--- the command took the bytes, had this end, and added its text
-abbrev pub Writes : Command → List ℕ → End → Option (List ℕ) → Option (List ℕ) → Type 0
-Writes command bytes end old new = (length bytes ≤ most_bytes command) × (text : List ℕ) × Appends old new text × Gives command bytes end text
+-- the command took the bytes, had this end, added its text and left this shelf
+abbrev pub Writes : Command → List ℕ → End → Option (List ℕ) → Option (List ℕ) → List Place → Type 0
+Writes command bytes end old new shelf = (length bytes ≤ most_bytes command) × (text : List ℕ) × Appends old new text × Gives command bytes end text (Some shelf)
 
 -- nothing was added, or a front of the text of a whole run
 abbrev pub WritesPart : Command → List ℕ → Option (List ℕ) → Option (List ℕ) → Type 0
 WritesPart command bytes old new =
     (new ≡ old)
-    ⊎ ((length bytes ≤ most_bytes command) × (end : End) × (text : List ℕ) × (rest : List ℕ) × Appends old new text × Gives command bytes end (text ++ rest))
+    ⊎ ((length bytes ≤ most_bytes command) × (end : End) × (text : List ℕ) × (rest : List ℕ) × Appends old new text × Gives command bytes end (text ++ rest) None)
 
 -- the status of a run whose text is whole
 abbrev pub end_status : End → ℕ

@@ -1,7 +1,8 @@
-ghost use Rattle.std.specs.Prelude.{◌≡◌, ◌≢◌, ◌≤◌, OnErr, IfOk, length};
+ghost use Rattle.std.specs.Prelude.{◌≡◌, ◌≢◌, ◌≤◌, List, OnErr, IfOk, length};
 ghost use Rattle.ocm_base.specs.Outside.{Appends, AppendsPart, Rose};
 ghost use Rattle.ocmd.specs.Audits.{not_journal};
 ghost use Rattle.ocmd.specs.Commands.{Writes, WritesPart};
+ghost use Rattle.ocm_disk.specs.declared.shelf.Place.{Place};
 ghost use Rattle.ocmd.specs.Words.{most_bytes};
 
 use crate::ends::{End, Fault};
@@ -13,7 +14,7 @@ use std::alloc::Global;
 /// Tells what the records of the journal's file say that these bytes are, or names the place where they are no journal.
 pub fn run_audit<K: Sink>(alloc: Global, bytes: &[u8], sink: &mut K) -> Result<End, Fault>
     requires { length bytes.now ≤ most_bytes Command.Audit }
-    ensures whole { IfOk result (λ end. Writes Command.Audit bytes.now end (K.taken sink.old) (K.taken sink.new)) }
+    ensures whole { (shelf : List Place) → IfOk result (λ end. Writes Command.Audit bytes.now end (K.taken sink.old) (K.taken sink.new) shelf) }
     ensures part { OnErr result (WritesPart Command.Audit bytes.now (K.taken sink.old) (K.taken sink.new)) }
     ensures not_long { result ≢ Err Fault.TooLong }
     ensures no_read_fault { result ≢ Err Fault.ReadFault }

@@ -1,9 +1,10 @@
-ghost use Rattle.std.specs.Prelude.{◌≡◌, ◌≢◌, ◌≤◌, OnErr, IfOk, length};
+ghost use Rattle.std.specs.Prelude.{◌≡◌, ◌≢◌, ◌≤◌, List, OnErr, IfOk, length};
 ghost use Rattle.ocm_base.specs.Outside.{Rose};
 ghost use Rattle.ocm_records.specs.Rows.{Gives};
 ghost use Rattle.ocmd.specs.Checks.{Checks, Tells};
 ghost use Rattle.ocmd.specs.Checks as specified;
 ghost use Rattle.ocmd.specs.Commands.{Writes, WritesPart};
+ghost use Rattle.ocm_disk.specs.declared.shelf.Place.{Place};
 ghost use Rattle.ocmd.specs.Words.{most_bytes};
 
 use crate::ends::{End, Fault};
@@ -18,7 +19,7 @@ use std::alloc::Global;
 /// Reads a record, and writes it in its one form, or its first fault.
 pub fn check<K: Sink>(alloc: Global, kind: Kind, bytes: &[u8], sink: &mut K) -> Result<End, Fault>
     requires { length bytes.now ≤ most_bytes (Command.Check kind) }
-    ensures whole { IfOk result (λ end. Writes (Command.Check kind) bytes.now end (K.taken sink.old) (K.taken sink.new)) }
+    ensures whole { (shelf : List Place) → IfOk result (λ end. Writes (Command.Check kind) bytes.now end (K.taken sink.old) (K.taken sink.new) shelf) }
     ensures part { OnErr result (WritesPart (Command.Check kind) bytes.now (K.taken sink.old) (K.taken sink.new)) }
     ensures not_long { result ≢ Err Fault.TooLong }
     ensures no_read_fault { result ≢ Err Fault.ReadFault }

@@ -11,6 +11,7 @@ use crate::ends::{End, Fault};
 use crate::scripts::run_script;
 use crate::words::Command;
 use ocm_base::{Bytes, Failed, ReadEnd, Sink, Source, read_whole, write_all};
+use ocm_disk::Shelf;
 use std::alloc::Global;
 
 /// Runs the command that the words are, and answers the status of the program: 0 where it was done,
@@ -22,7 +23,9 @@ pub fn command<S: Source, K: Sink>(
     words: &[String],
     source: &mut S,
     sink: &mut K,
+    shelf: &mut Shelf,
 ) -> u8
+    requires { shelf.old ≡ [] }
     ensures one { IsStatus result }
 
     // 1, or 4 where the line of the commands could not be written: other words, and nothing was read
@@ -36,7 +39,7 @@ pub fn command<S: Source, K: Sink>(
     // 0, 2, 7 and 8: the source was read to its end, and what the command writes on its bytes was added
     ensures ended { IsWhole result → IfSome (S.left source.new) (λ rest. rest ≡ []) }
     ensures whole { (c : Command) → map (λ word. string_bytes word) words.now ≡ words_of c → IsWhole result
-        → IfSome (S.left source.old) (λ bytes. (end : End) × (result ≡ end_status end) × Writes c bytes end (K.taken sink.old) (K.taken sink.new)) }
+        → IfSome (S.left source.old) (λ bytes. (end : End) × (result ≡ end_status end) × Writes c bytes end (K.taken sink.old) (K.taken sink.new) shelf.new) }
 
     // 3 and 4: the source, the sink failed in this call
     ensures read_fault { result ≡ 3 → Rose (S.faults source.old) (S.faults source.new) }
@@ -52,7 +55,7 @@ pub fn command<S: Source, K: Sink>(
         → IfSome (S.left source.old) (λ bytes. WritesPart c bytes (K.taken sink.old) (K.taken sink.new)) }
 {
     match Command::read(words) {
-        Some(command) => status_of(run(alloc, command, source, sink)),
+        Some(command) => status_of(run(alloc, command, source, sink, shelf)),
         None => usage(sink),
     }
 }
@@ -80,9 +83,11 @@ fn run<S: Source, K: Sink>(
     command: Command,
     source: &mut S,
     sink: &mut K,
+    shelf: &mut Shelf,
 ) -> Result<End, Fault>
+    requires { shelf.old ≡ [] }
     ensures ended { OnOk result (IfSome (S.left source.new) (λ rest. rest ≡ [])) }
-    ensures whole { IfOk result (λ end. IfSome (S.left source.old) (λ bytes. Writes command bytes end (K.taken sink.old) (K.taken sink.new))) }
+    ensures whole { IfOk result (λ end. IfSome (S.left source.old) (λ bytes. Writes command bytes end (K.taken sink.old) (K.taken sink.new) shelf.new)) }
     ensures part { OnErr result (IfSome (S.left source.old) (λ bytes. WritesPart command bytes (K.taken sink.old) (K.taken sink.new))) }
     ensures too_long { result ≡ Err Fault.TooLong → IfSome (S.left source.old) (IsLong command) }
     ensures unwritten_length { result ≡ Err Fault.TooLong → K.taken sink.new ≡ K.taken sink.old }
@@ -96,7 +101,7 @@ fn run<S: Source, K: Sink>(
         Err(ReadEnd::TooLong) => return Err(Fault::TooLong),
         Err(ReadEnd::NoMemory) => return Err(Fault::NoMemory),
     };
-    run_on(alloc, command, &bytes, sink)
+    run_on(alloc, command, &bytes, sink, shelf)
 }
 
 /// Runs a command on its input.
@@ -105,9 +110,11 @@ fn run_on<K: Sink>(
     command: Command,
     bytes: &Bytes,
     sink: &mut K,
+    shelf: &mut Shelf,
 ) -> Result<End, Fault>
-    requires { length bytes.now ≤ most_bytes command }
-    ensures whole { IfOk result (λ end. Writes command bytes.now end (K.taken sink.old) (K.taken sink.new)) }
+    requires length { length bytes.now ≤ most_bytes command }
+    requires empty { shelf.old ≡ [] }
+    ensures whole { IfOk result (λ end. Writes command bytes.now end (K.taken sink.old) (K.taken sink.new) shelf.new) }
     ensures part { OnErr result (WritesPart command bytes.now (K.taken sink.old) (K.taken sink.new)) }
     ensures too_long { result ≡ Err Fault.TooLong → IsLong command bytes.now }
     ensures unwritten { result ≡ Err Fault.TooLong → K.taken sink.new ≡ K.taken sink.old }
@@ -115,7 +122,7 @@ fn run_on<K: Sink>(
     ensures write_fault { result ≡ Err Fault.WriteFault → Rose (K.faults sink.old) (K.faults sink.new) }
 {
     match command {
-        Command::Replay => run_script(alloc, bytes.as_slice(), sink),
+        Command::Replay => run_script(alloc, bytes.as_slice(), sink, shelf),
         Command::Audit => run_audit(alloc, bytes.as_slice(), sink),
         Command::Check(kind) => check(alloc, kind, bytes.as_slice(), sink),
     }

@@ -6,12 +6,15 @@ mod checks;
 mod commands;
 mod ends;
 mod scripts;
+mod servers;
 #[cfg(test)]
 mod tests;
 mod words;
 
 use crate::commands::{command, usage};
+use crate::servers::{asks_serve, run_server};
 use ocm_base::{StdSink, StdSource};
+use ocm_disk::Shelf;
 use std::io::ErrorKind;
 use std::process::ExitCode;
 use std::{env, io};
@@ -22,8 +25,10 @@ const NO_MEMORY: u8 = 5;
 fn main(rt: HostRuntime) -> ExitCode {
     let mut source = StdSource::new(rt.reader());
     let mut sink = StdSink::new(io::writer(&rt));
+    let mut shelf = Shelf::new(rt.alloc());
     let status = match words_of(&rt) {
-        Ok(words) => command(rt.alloc(), &words, &mut source, &mut sink),
+        Ok(words) if asks_serve(&words) => run_server(&rt, rt.alloc(), &words, &mut sink),
+        Ok(words) => command(rt.alloc(), &words, &mut source, &mut sink, &mut shelf),
         Err(e) if e.kind() == ErrorKind::OutOfMemory => NO_MEMORY,
         Err(_) => usage(&mut sink),
     };

@@ -1,4 +1,4 @@
-ghost use Rattle.std.specs.Prelude.{◌≡◌, ◌≢◌, ◌≤◌, OnErr, IfOk, length};
+ghost use Rattle.std.specs.Prelude.{◌≡◌, ◌≢◌, ◌≤◌, [], OnErr, IfOk, length};
 ghost use Rattle.ocm_base.specs.Outside.{Appends, AppendsPart, Rose};
 ghost use Rattle.ocmd.specs.Commands.{IsLong, Writes, WritesPart, bad_line};
 ghost use Rattle.ocmd.specs.Words.{most_bytes};
@@ -6,14 +6,21 @@ ghost use Rattle.ocmd.specs.Words.{most_bytes};
 use crate::ends::{End, Fault};
 use crate::words::Command;
 use ocm_base::{Bytes, NoMemory, Sink, write_all};
+use ocm_disk::Shelf;
 use ocm_script::{ScriptFault, read_script};
 use ocm_world::{WorldFault, replay};
 use std::alloc::Global;
 
 /// Runs the script that these bytes are and writes its transcript, or names its first bad line.
-pub fn run_script<K: Sink>(alloc: Global, bytes: &[u8], sink: &mut K) -> Result<End, Fault>
-    requires { length bytes.now ≤ most_bytes Command.Replay }
-    ensures whole { IfOk result (λ end. Writes Command.Replay bytes.now end (K.taken sink.old) (K.taken sink.new)) }
+pub fn run_script<K: Sink>(
+    alloc: Global,
+    bytes: &[u8],
+    sink: &mut K,
+    shelf: &mut Shelf,
+) -> Result<End, Fault>
+    requires length { length bytes.now ≤ most_bytes Command.Replay }
+    requires empty { shelf.old ≡ [] }
+    ensures whole { IfOk result (λ end. Writes Command.Replay bytes.now end (K.taken sink.old) (K.taken sink.new) shelf.new) }
     ensures part { OnErr result (WritesPart Command.Replay bytes.now (K.taken sink.old) (K.taken sink.new)) }
     ensures too_long { result ≡ Err Fault.TooLong → IsLong Command.Replay bytes.now }
     ensures unwritten { result ≡ Err Fault.TooLong → K.taken sink.new ≡ K.taken sink.old }
@@ -26,7 +33,7 @@ pub fn run_script<K: Sink>(alloc: Global, bytes: &[u8], sink: &mut K) -> Result<
         Err(ScriptFault::TooMany) => return Err(Fault::TooLong),
         Err(ScriptFault::NoMemory) => return Err(Fault::NoMemory),
     };
-    match replay(alloc, &events, sink) {
+    match replay(alloc, &events, sink, shelf) {
         Ok(()) => Ok(End::Done),
         Err(WorldFault::WriteFault) => Err(Fault::WriteFault),
         Err(WorldFault::NoMemory) => Err(Fault::NoMemory),

@@ -1,5 +1,6 @@
 use crate::commands::command;
 use ocm_base::{Bytes, List, MemSink, MemSource, NoMemory};
+use ocm_disk::Shelf;
 use std::alloc::Global;
 use std::test::Fail;
 
@@ -26,7 +27,8 @@ fn run(
     }
     let mut source = MemSource::new(Bytes::of(alloc, script)?, 7, calls(alloc, read_fails)?);
     let mut sink = MemSink::new(alloc, 5, calls(alloc, write_fails)?, 4096)?;
-    let status = command(alloc, &words, &mut source, &mut sink);
+    let mut shelf = Shelf::new(alloc);
+    let status = command(alloc, &words, &mut source, &mut sink, &mut shelf);
     Ok((status, sink.into_bytes()))
 }
 

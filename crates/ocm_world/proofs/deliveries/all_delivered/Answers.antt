@@ -1,5 +1,5 @@
-use Rattle.std.proofs.Common.{◌≡◌, ◌+◌, ◌++◌, ◌∷◌, ℕ, List, [], true, false, Some, None, Option, length, get_or, set, refl, sym, ap, ◌∙◌, subst, drop, arith, rules, IfOk}
-use Rattle.ocm_world.proofs.Posts.{Runs-all, Runs-given, Runs-unreachable, GoesOn-at, GoesOn-more, GoesOn-start}
+use Rattle.std.proofs.Common.{◌+◌, refl, ap, arith}
+use Rattle.ocm_world.proofs.Posts.{Runs-all, GoesOn-at, GoesOn-more, GoesOn-start}
 use Rattle.std.proofs.lemmas.List.{drop_all}
 use Rattle.ocm_world.proofs.deliveries.all_delivered.Goals as goal
 

@@ -1,14 +1,13 @@
-use Rattle.std.proofs.Common.{◌≡◌, ◌++◌, ◌∷◌, ℕ, List, [], true, false, Some, None, Option, length, get_or, set, refl, sym, ap, ◌∙◌, subst, drop, arith, rules}
-use Rattle.ocm_world.proofs.Lines.{Runs-answered, Runs-on, Runs-same, Runs-still, Runs-unanswered, if_ok}
+use Rattle.ocm_world.proofs.Lines.{Runs-answered, Runs-unanswered, if_ok}
 use Rattle.std.specs.Prelude.{codes}
 use Rattle.ocm_entry.specs.declared.replies.Reply.{Reply}
-use Rattle.ocm_transcript.specs.Texts.{told_line, reply_lines}
+use Rattle.ocm_transcript.specs.Texts.{told_line}
 use Rattle.ocm_world.proofs.deliveries.come_back.Goals as goal
 
 pub returns-in-Some : goal.returns-in-Some
 returns-in-Some c = if_ok c.with_back.result
-    (λ text e world are. rw e (Runs-answered c.ask.new.self world c.args.sender.now c.args.ask.now c.in-Some.reply c.args.front (λ (reply : Reply). told_line c.args.line (codes "back") c.args.sender.now reply) (c.in-Some.ensures world are)))
+    (λ text e world are. rw e (Runs-answered c.ask.new.self world c.args.sender.now c.args.ask c.in-Some.reply c.args.front (λ (reply : Reply). told_line c.args.line (codes "back") c.args.sender.now reply) (c.in-Some.ensures world are)))
     c.with_back.ensures
 
 pub returns-in-None : goal.returns-in-None
-returns-in-None c = λ world are. Runs-unanswered c.ask.new.self world c.args.sender.now c.args.ask.now c.args.front (λ (reply : Reply). told_line c.args.line (codes "back") c.args.sender.now reply) (c.in-None.ensures world are)
+returns-in-None c = λ world are. Runs-unanswered c.ask.new.self world c.args.sender.now c.args.ask c.args.front (λ (reply : Reply). told_line c.args.line (codes "back") c.args.sender.now reply) (c.in-None.ensures world are)

@@ -1,9 +1,8 @@
-use Rattle.std.proofs.Common.{◌≡◌, ◌++◌, ◌∷◌, ℕ, List, [], true, false, Some, None, Option, length, get_or, set, refl, sym, ap, ◌∙◌, subst, drop, arith, rules}
-use Rattle.ocm_world.proofs.Lines.{Runs-answered, Runs-on, Runs-same, Runs-still, Runs-unanswered, if_ok}
+use Rattle.std.proofs.Common.{[], Some, Option, refl, sym, ap, ◌∙◌}
+use Rattle.ocm_world.proofs.Lines.{Runs-same, if_ok}
 use Rattle.ocm_types.specs.declared.letters.Numbered.{Numbered}
 use Rattle.std.specs.Option.{option_map_or}
-use Rattle.ocm_world.specs.Deliveries.{Run, all_delivered, deliver, delivered, nothing, pump, pumped}
-use Rattle.ocm_world.specs.Servers.{asked_at}
+use Rattle.ocm_world.specs.Deliveries.{delivered, nothing}
 use Rattle.ocm_world.proofs.deliveries.deliver.Goals as goal
 
 pub returns-in_default : goal.returns-in_default

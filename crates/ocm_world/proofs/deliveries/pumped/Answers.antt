@@ -1,9 +1,7 @@
-use Rattle.std.proofs.Common.{◌≡◌, ◌++◌, ◌∷◌, ℕ, List, [], true, false, Some, None, Option, length, get_or, set, refl, sym, ap, ◌∙◌, subst, drop, arith, rules, IfOk}
-use Rattle.ocm_world.proofs.Lines.{Runs-answered, Runs-on, Runs-same, Runs-still, Runs-unanswered, if_ok}
+use Rattle.std.proofs.Common.{List, [], refl, subst}
+use Rattle.ocm_world.proofs.Lines.{Runs-same, if_ok}
 use Rattle.ocm_types.specs.declared.letters.Numbered.{Numbered}
-use Rattle.std.specs.Option.{option_map_or}
-use Rattle.ocm_world.specs.Deliveries.{Run, all_delivered, deliver, delivered, nothing, pump, pumped}
-use Rattle.ocm_world.specs.Servers.{asked_at}
+use Rattle.ocm_world.specs.Deliveries.{all_delivered, nothing}
 use Rattle.ocm_world.specs.Running.{Runs}
 use Rattle.ocm_world.proofs.Posts.{none_by, pumped-none, pumped-other, pumped-some, some_not}
 use Rattle.ocm_world.proofs.deliveries.pumped.Goals as goal

@@ -1,4 +1,4 @@
-use Rattle.std.proofs.Common.{◌≡◌, ◌++◌, ◌∷◌, ℕ, List, [], true, false, Some, None, Option, length, get_or, set, refl, sym, ap, ◌∙◌, subst, drop, arith, rules, IfOk}
+use Rattle.std.proofs.Common.{◌≡◌, ◌++◌, ℕ, List, ap, ◌∙◌, subst, IfOk}
 use Rattle.std.specs.Prelude.{codes}
 use Rattle.ocm_transcript.specs.Texts.{line_text}
 use Rattle.ocm_world.proofs.deliveries.unreachable_line.Goals as goal

@@ -1,11 +1,11 @@
-use Rattle.std.proofs.Common.{◌≡◌, ◌++◌, ◌∷◌, ℕ, List, [], true, false, Some, None, Option, length, get_or, set, refl, sym, ap, ◌∙◌, subst, drop, arith, rules, IfOk}
+use Rattle.std.proofs.Common.{refl, arith, rules}
 use Rattle.std.proofs.lemmas.List.{drop_all}
 use Rattle.std.proofs.lemmas.Result.{err_from_is_err_and}
 use Rattle.ocm_world.proofs.Scripts.{GoesOn-at, GoesOn-more, GoesOn-start, Writes-from_end, WritesPart-cut, WritesPart-stop}
 use Rattle.ocm_world.proofs.replays.run_events.Goals as goal
 
 pub loop-event-init : goal.loop-event-init
-loop-event-init g c = record { line = refl; goes_on = GoesOn-start _ _ _ c.new-servers.ensures; never_falls = search rules }
+loop-event-init g c = record { line = refl; goes_on = GoesOn-start _ _ _ c.requires.none; never_falls = search rules }
 
 pub loop-event-preserved : goal.loop-event-preserved
 loop-event-preserved g c = record {
@@ -31,3 +31,6 @@ returns-in_err-write_all-clause-err g c =
 
 pub returns-clause-ok : goal.returns-clause-ok
 returns-clause-ok g c = Writes-from_end _ _ _ _ _ _ (drop_all c.loop-event.event-index c.args.events.now (omega arith)) c.loop-event.invariant.goes_on
+
+pub run-requires-clause-stands : goal.run-requires-clause-stands
+run-requires-clause-stands g c = (c.loop-event.invariant.goes_on.world, c.loop-event.invariant.goes_on.stands)

@@ -1,5 +1,5 @@
-use Rattle.std.proofs.Common.{◌≡◌, ◌++◌, ◌∷◌, ℕ, List, [], true, false, Some, None, Option, length, get_or, set, refl, sym, ap, ◌∙◌, subst, drop, arith, rules, IfOk}
-use Rattle.ocm_world.proofs.Lines.{Runs-answered, Runs-on, Runs-same, Runs-still, Runs-unanswered, if_ok}
+use Rattle.std.proofs.Common.{[], None, sym, ◌∙◌}
+use Rattle.ocm_world.proofs.Lines.{Runs-same, if_ok}
 use Rattle.ocm_script.specs.Events.{host_of}
 use Rattle.ocm_world.specs.Transcript.{faulty_text, plain}
 use Rattle.ocm_world.specs.Deliveries.{next_wanting}
@@ -10,7 +10,7 @@ pub returns-in_default : goal.returns-in_default
 returns-in_default c = if_ok c.run_faulty.result (λ text e world are. rw (← c.in_default.ensures) ([], e, are)) c.run_faulty.ensures
 
 pub returns-in-Some-2 : goal.returns-in-Some-2
-returns-in-Some-2 c = rw (← c.in-Some.ensures, ← (sym c.in-Some-2.is ∙ c.in_ok-ask.ensures)) (rw c.shows_digits.ensures at c.run_ask-text.ensures)
+returns-in-Some-2 c = rw (← c.in-Some.ensures, ← (sym c.in-Some-2.is ∙ c.in_ok-ask.ensures)) (rw c.shows_digits.ensures at c.run_ask.ensures)
 
 pub returns-in-None : goal.returns-in-None
 returns-in-None c = if_ok c.run_faulty-in-None.result

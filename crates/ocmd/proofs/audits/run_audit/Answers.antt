@@ -8,7 +8,7 @@ use Rattle.ocmd.proofs.audits.run_audit.Goals as goal
 pub returns-in-Err-NotJournal-clause-whole : goal.returns-in-Err-NotJournal-clause-whole
 returns-in-Err-NotJournal-clause-whole g c =
     let refused = c.in-Err-NotJournal.ensures.not_journal c.in-Err-NotJournal.place (ap (λ (f : AuditFault). Err f) c.in-Err-NotJournal.field-0-is) in
-    named-place c.args.bytes.now c.in-Err-NotJournal.place (g.K.Sink.taken c.args.sink.now) (g.K.Sink.taken c.audit.new.sink) (g.K.Sink.taken c.name_place.new.sink) c.name_place.result c.requires refused.0 (ap g.K.Sink.taken refused.1) c.name_place.ensures.whole
+    λ shelf. named-place c.args.bytes.now c.in-Err-NotJournal.place (g.K.Sink.taken c.args.sink.now) (g.K.Sink.taken c.audit.new.sink) (g.K.Sink.taken c.name_place.new.sink) shelf c.name_place.result c.requires refused.0 (ap g.K.Sink.taken refused.1) c.name_place.ensures.whole
 
 pub returns-in-Err-NotJournal-clause-part : goal.returns-in-Err-NotJournal-clause-part
 returns-in-Err-NotJournal-clause-part g c =

@@ -12,4 +12,4 @@ returns-in_err-write_all-clause-part g c =
 pub returns-clause-whole : goal.returns-clause-whole
 returns-clause-whole g c =
     let checks = told-given c.checked.result (specified.checked c.args.kind c.args.bytes.now) c.in_ok-end.end c.in_ok-end.text c.checked.ensures c.in_ok-end.ensures.known c.in_ok-end.ensures.tells in
-    (c.requires, c.in_ok-end.text, rw c.as_slice.ensures at c.in_ok-write_all.ensures.ok, checks)
+    λ shelf. (c.requires, c.in_ok-end.text, rw c.as_slice.ensures at c.in_ok-write_all.ensures.ok, checks)

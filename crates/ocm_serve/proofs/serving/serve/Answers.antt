@@ -1,0 +1,37 @@
+use Rattle.std.proofs.Common.{◌≡◌, ℕ, List, sym, ap, subst, ◌∙◌}
+use Rattle.ocm_dav.specs.declared.configs.Config.{Config}
+use Rattle.ocm_entry.specs.declared.entries.Entry.{Entry}
+use Rattle.ocm_serve.specs.Runs.{HasServed}
+use Rattle.ocm_server.specs.declared.served.Served.{Served}
+use Rattle.ocm_serve.proofs.Told.{based, loaded-counted, loaded-said, loaded-sound, opened_same, unserved}
+use Rattle.ocm_store.specs.Opening.{IsOfArea}
+use Rattle.ocm_store.specs.Stores.{area_of}
+use Rattle.ocm_serve.proofs.serving.serve.Goals as goal
+
+pub serve_store-requires-clause-store : goal.serve_store-requires-clause-store
+serve_store-requires-clause-store g c κs within = let o = c.in-Ok-load.ensures.opened in let names = c.in-Ok.ensures in
+    (o.0, opened_same g.D.Disk 536870656 c.in-Ok.host c.in-Ok.config.host c.args.disk c.of-before.result.value o.0 (names.1 ∙ sym (ap (λ (k : Config). k.host) names.0)) (sym c.of-before.ensures) o.3, o.1, o.2)
+
+pub returns-in-Ok-load-clause-served : goal.returns-in-Ok-load-clause-served
+returns-in-Ok-load-clause-served g c = λ calls own has. let names = c.in-Ok.ensures in record {
+  config = c.in-Ok.config;
+  config_is = names.0;
+  store = c.in-Ok-load.store;
+  host_is = c.in-Ok-load.ensures.host ∙ names.1;
+  area_is = λ tells. subst (λ (h : List ℕ). IsOfArea h 536870656 (area_of c.in-Ok-load.store) (g.D.Disk.seen c.args.disk)) names.1 (c.in-Ok-load.ensures.area tells);
+  served = based g.D.Disk _ _ _ _ _ _ _ _
+      (λ (k : List Entry) opens. opened_same g.D.Disk 536870656 c.in-Ok.config.host c.args.plan.now.host c.of-before.result.value c.args.disk k (ap (λ (n : Config). n.host) names.0) c.of-before.ensures opens)
+      (c.serve_store.ensures.served calls own has);
+}
+
+pub returns-in-Ok-load-clause-said : goal.returns-in-Ok-load-clause-said
+returns-in-Ok-load-clause-said g c = λ tells. loaded-said _ c.serve_store.result.0 c.serve_store.ensures.loaded
+
+pub returns-in-Ok-load-clause-counted : goal.returns-in-Ok-load-clause-counted
+returns-in-Ok-load-clause-counted g c = loaded-counted _ _ c.serve_store.result.0 c.serve_store.ensures.loaded
+
+pub returns-in-Ok-load-clause-unfailing : goal.returns-in-Ok-load-clause-unfailing
+returns-in-Ok-load-clause-unfailing g c = λ passes. loaded-sound c.serve_store.result.0 c.serve_store.ensures.loaded
+
+pub returns-clause-served : goal.returns-clause-served
+returns-clause-served g c = λ calls own has. absurd (unserved c.in-Err.fault calls own (subst (λ (r : Served). HasServed r calls own) c.refused.ensures has))

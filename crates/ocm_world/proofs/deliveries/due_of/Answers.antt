@@ -1,5 +1,0 @@
-use Rattle.std.proofs.Common.{◌≡◌, ◌++◌, ℕ, List, [], get_or, set, refl, sym, ap, ◌∙◌, subst, drop, arith, rules}
-use Rattle.ocm_world.proofs.deliveries.due_of.Goals as goal
-
-pub returns : goal.returns
-returns c = c.ask-reply.ensures

@@ -1,0 +1,127 @@
+//! A server of a script, and how it is loaded from its disk.
+ghost use Rattle.std.specs.Prelude.{◌≡◌, Bool, IfOk, IsTrue, None, Some, option_copied};
+ghost use Rattle.ocm_entry.specs.Fitting.{Fits};
+ghost use Rattle.ocm_entry.specs.Proper.{is_proper};
+ghost use Rattle.ocm_rules.specs.Lean.{count};
+ghost use Rattle.ocm_world.specs.Running.{IsDiskOf, IsLoaded, IsOf, IsSound, is_at};
+ghost use Rattle.ocm_world.specs.Servers.{Server, crashed, history, message_of, reply_of, server_after};
+ghost use Rattle.ocm_store.specs.Stores.{disk_of};
+
+use ocm_base::NoMemory;
+use ocm_disk::{Crash, MemDisk};
+use ocm_entry::{Ask, Object, Reply};
+use ocm_store::{LoadFault, Store};
+use ocm_types::{Host, Numbered};
+use std::alloc::Global;
+
+/// The most bytes that the journal of a server takes on its disk.
+const LIMIT: u64 = 67_108_864;
+
+/// A server of a script: its host, its store, and what the last `clock` line told it, 0 before the first.
+#[derive(Drop)]
+pub struct Node {
+    pub(crate) host: Host,
+    pub(crate) store: Store<MemDisk>,
+    pub(crate) clock: u64,
+}
+
+/// Loads a server from its disk.
+pub fn load(alloc: Global, disk: MemDisk, host: &Host, clock: u64) -> Result<Node, NoMemory>
+    requires sound { IsSound disk None }
+    requires own { IsDiskOf host.now disk.images.seen }
+    ensures { IfOk result (IsLoaded disk.images.seen host.now clock) }
+{
+    let own = host.copy()?;
+    match Store::load(alloc, disk, host.copy()?, LIMIT) {
+        Ok(store) => Ok(Node {
+            host: own,
+            store,
+            clock,
+        }),
+        Err((disk, fault)) => {
+            drop(disk);
+            Err(no_memory(fault))
+        }
+    }
+}
+
+/// The one fault of a server's own disk that does not fail.
+fn no_memory(fault: LoadFault) -> NoMemory
+    requires { fault ≡ LoadFault.NoMemory }
+{
+    match fault {
+        LoadFault::NoMemory => NoMemory,
+        LoadFault::NotJournal(_) => unreachable!(),
+        LoadFault::OtherHost(_) => unreachable!(),
+        LoadFault::DiskFault(_) => unreachable!(),
+    }
+}
+
+impl Node {
+    /// Whether it is the server of this host.
+    pub fn is_at(&self, host: &Host) -> bool
+        ensures { result ≡ is_at host.now self.now }
+    {
+        self.host == *host
+    }
+
+    /// Answers an ask, and makes its change.
+    pub fn act(&mut self, ask: Ask) -> Reply
+        requires { IsTrue (is_proper ask) }
+        ensures replied { (server : Server) → IsOf self.old server → (wanting : Bool) × (result ≡ reply_of wanting server ask) × IsOf self.new (server_after wanting server ask) }
+        ensures fits { (server : Server) → IsOf self.old server → Fits ask result }
+    {
+        self.store.act(ask)
+    }
+
+    /// The message of this number that it sent. None where there is none.
+    pub fn message(&self, number: u32) -> Option<&Numbered>
+        ensures { (server : Server) → IsOf self.now server → option_copied result ≡ message_of server number }
+    {
+        self.store.message(number)
+    }
+
+    /// How many entries are kept that are no tick.
+    pub fn kept(&self) -> u64
+        ensures { (server : Server) → IsOf self.now server → result ≡ count server.host (history server) }
+    {
+        self.store.kept()
+    }
+
+    /// From now on so many device calls of its disk pass.
+    pub fn fuse(&mut self, calls: u64)
+        ensures { (server : Server) → IsOf self.old server → IsOf self.new (record server { fuse = Some calls }) }
+    {
+        self.store.fuse(calls);
+    }
+
+    /// What a `clock` line told it last.
+    pub fn set_clock(&mut self, clock: u64)
+        ensures { (server : Server) → IsOf self.old server → IsOf self.new (record server { clock = clock }) }
+    {
+        self.clock = clock;
+    }
+
+    /// What a crash leaves of it, loaded again.
+    pub fn restart(self, alloc: Global, left: Crash) -> Result<Node, NoMemory>
+        requires { (server : Server) × IsOf self server }
+        ensures { IfOk result (λ node. (server : Server) → IsOf self server → (keeps : Bool) × IsOf node (crashed keeps server)) }
+    {
+        let Node { host, store, clock } = self;
+        let node = load(alloc, store.into_disk().crash(left), &host, clock);
+        drop(host);
+        node
+    }
+
+    /// Its host, and its disk.
+    pub fn into_parts(self) -> (Host, MemDisk)
+        ensures { result ≡ (self.host, disk_of self.store) }
+    {
+        let Node {
+            host,
+            store,
+            clock: _,
+        } = self;
+        (host, store.into_disk())
+    }
+}
