@@ -1,0 +1,95 @@
+//! The steps of a case.
+use crate::asks::ask_of;
+use crate::disks::disk_told;
+use crate::places::{Place, crash, fuse, load, put, taken};
+use crate::replies::reply_told;
+use ocm_disk::MemDisk;
+use ocm_entry::Object;
+use ocm_store::Store;
+use ocm_types::{Letter, Numbered};
+use std::alloc::Global;
+
+/// What each step of a case tells. None where a step is none, or where memory was wanting for what it tells.
+pub fn case_told(alloc: Global, case: &str) -> Option<String> {
+    let mut place = Place::Off(MemDisk::new(alloc));
+    let mut text = String::new(alloc);
+    let whole = add_each(alloc, &mut place, &mut text, case);
+    drop(place);
+    match whole {
+        Some(()) => Some(text),
+        None => {
+            drop(text);
+            None
+        }
+    }
+}
+
+fn add_each(alloc: Global, place: &mut Place, text: &mut String, case: &str) -> Option<()> {
+    for step in case.split("; ") {
+        add_step(alloc, place, text, step)?;
+    }
+    Some(())
+}
+
+fn add_step(alloc: Global, place: &mut Place, text: &mut String, step: &str) -> Option<()> {
+    if !text.is_empty() {
+        text.push_str("; ").ok()?;
+    }
+    let told = step_told(alloc, place, step)?;
+    let added = text.push_str(told.as_str());
+    drop(told);
+    added.ok()
+}
+
+fn step_told(alloc: Global, place: &mut Place, step: &str) -> Option<String> {
+    let (kind, row) = step.split_once(' ').unwrap_or((step, ""));
+    match kind {
+        "load" => load(alloc, place, row),
+        "crash" => crash(alloc, place, row),
+        "fuse" => fuse(alloc, place, row),
+        "add" | "fill" | "cut" | "length" | "bytes" | "audit" => disk_step(alloc, place, kind, row),
+        _ => match place {
+            Place::On(store) => store_told(alloc, store, kind, row),
+            Place::Off(_) => None,
+        },
+    }
+}
+
+fn disk_step(alloc: Global, place: &mut Place, kind: &str, row: &str) -> Option<String> {
+    let mut disk = taken(alloc, place);
+    let told = disk_told(alloc, &mut disk, kind, row);
+    put(place, Place::Off(disk));
+    told
+}
+
+fn store_told(alloc: Global, store: &mut Store<MemDisk>, kind: &str, row: &str) -> Option<String> {
+    match kind {
+        "kept" => format!(in alloc; "kept {}", store.kept()).ok(),
+        "moment" => format!(in alloc; "moment {}", store.moment()).ok(),
+        "message" => message_told(alloc, store.message(row.parse().ok()?)),
+        _ => answered(alloc, store, kind, row),
+    }
+}
+
+fn answered(alloc: Global, store: &mut Store<MemDisk>, kind: &str, row: &str) -> Option<String> {
+    let reply = store.act(ask_of(alloc, kind, row)?);
+    let told = reply_told(alloc, &reply);
+    drop(reply);
+    told
+}
+
+/// Of what kind a message is, and where it goes.
+fn message_told(alloc: Global, message: Option<&Numbered>) -> Option<String> {
+    match message {
+        Some(message) => letter_told(alloc, message),
+        None => String::from_str(alloc, "none").ok(),
+    }
+}
+
+fn letter_told(alloc: Global, message: &Numbered) -> Option<String> {
+    let kind = match &message.letter {
+        Letter::Offer(_) => "offer",
+        Letter::Notice(_) => "notice",
+    };
+    format!(in alloc; "{kind} to {}", message.to.as_str()).ok()
+}

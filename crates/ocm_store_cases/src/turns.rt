@@ -1,0 +1,119 @@
+//! Turnstiles in front of stores.
+ghost use Rattle.std.specs.Prelude.{◌≤◌, ◌^◌, List, []};
+ghost use Rattle.ocm_entry.specs.declared.entries.Entry.{Entry};
+ghost use Rattle.ocm_store.specs.Stores.{IsLegalUnder, Stands, terms_of};
+
+use crate::asks::ask_of;
+use crate::gates::Gates;
+use crate::replies::reply_told;
+use ocm_disk::{Disk, MemDisk};
+use ocm_entry::Reply;
+use ocm_store::Store;
+use ocm_turn::{Spent, Turnstile};
+use ocm_types::Host;
+use std::alloc::Global;
+use std::marker::Brand;
+use std::sync::Wait;
+
+/// What a turnstile with this limit in front of a new store tells, `LIMIT; ASK; ASK`: each reply, and at last how many
+/// calls were made. An ask behind the word `other` is made with a pass that was split off before the first call.
+pub fn turns_told<R: Wait>(rt: &R, alloc: Global, row: &str) -> Option<String> {
+    let (limit, asks) = row.split_once("; ")?;
+    let limit: u64 = limit.parse().ok()?;
+    if limit < 1 || limit > 1000 {
+        return None;
+    }
+    match Host::read(alloc, "a.example") {
+        Ok(host) => turns_of(rt, alloc, host, limit, asks),
+        Err(_) => None,
+    }
+}
+
+fn turns_of<R: Wait>(rt: &R, alloc: Global, host: Host, limit: u64, asks: &str) -> Option<String>
+    requires { (1 ≤ limit) × (limit ≤ 2 ^ 63) }
+{
+    match Store::load(alloc, MemDisk::new(alloc), host, 4096) {
+        Ok(store) => turns_by(rt, alloc, store, limit, asks),
+        Err(_) => None,
+    }
+}
+
+fn turns_by<R: Wait>(
+    rt: &R,
+    alloc: Global,
+    store: Store<MemDisk>,
+    limit: u64,
+    asks: &str,
+) -> Option<String>
+    requires limit { (1 ≤ limit) × (limit ≤ 2 ^ 63) }
+    requires stands { (k : List Entry) × Stands ⟦<MemDisk as Disk>⟧ store k [] × IsLegalUnder (terms_of store) k [] }
+{
+    match Turnstile::make::<Brand>(alloc, store, limit) {
+        Ok((turnstile, pass)) => gates_told(rt, alloc, Gates::of(turnstile, pass)?, asks),
+        Err(store) => {
+            drop(store);
+            None
+        }
+    }
+}
+
+fn gates_told<R: Wait>(rt: &R, alloc: Global, mut gates: Gates, asks: &str) -> Option<String> {
+    let mut text = String::new(alloc);
+    let whole = add_each(rt, alloc, &mut gates, &mut text, asks);
+    let calls = gates.close(rt);
+    let told = match whole {
+        Some(()) => format!(in alloc; "{}{calls} calls", text.as_str()).ok(),
+        None => None,
+    };
+    drop(text);
+    told
+}
+
+fn add_each<R: Wait>(
+    rt: &R,
+    alloc: Global,
+    gates: &mut Gates,
+    text: &mut String,
+    asks: &str,
+) -> Option<()> {
+    for ask in asks.split("; ") {
+        add_turn(rt, alloc, gates, text, ask)?;
+    }
+    Some(())
+}
+
+fn add_turn<R: Wait>(
+    rt: &R,
+    alloc: Global,
+    gates: &mut Gates,
+    text: &mut String,
+    ask: &str,
+) -> Option<()> {
+    let told = turn_told(rt, alloc, gates, ask)?;
+    let added = text.push_str(told.as_str());
+    drop(told);
+    added.ok()?;
+    text.push_str("; ").ok()
+}
+
+fn turn_told<R: Wait>(rt: &R, alloc: Global, gates: &mut Gates, ask: &str) -> Option<String> {
+    let (kind, row) = ask.split_once(' ')?;
+    if kind == "other" {
+        let (kind, row) = row.split_once(' ')?;
+        let ask = ask_of(alloc, kind, row)?;
+        return answer_told(alloc, gates.call_other(rt, ask));
+    }
+    let ask = ask_of(alloc, kind, row)?;
+    answer_told(alloc, gates.call(rt, ask))
+}
+
+fn answer_told(alloc: Global, answer: Result<Reply, Spent>) -> Option<String> {
+    match answer {
+        Ok(reply) => {
+            let told = reply_told(alloc, &reply);
+            drop(reply);
+            told
+        }
+        Err(Spent) => String::from_str(alloc, "spent").ok(),
+    }
+}
