@@ -19,8 +19,6 @@ mod memory_sinks;
 mod memory_sources;
 mod outside;
 mod streams;
-#[cfg(test)]
-mod tests;
 mod text_lists;
 mod traces;
 mod whole;

@@ -7,8 +7,6 @@ mod borrowed;
 mod faults;
 mod fields;
 mod lists;
-#[cfg(test)]
-mod tests;
 
 pub use borrowed::FieldsRef;
 pub use faults::{FieldFault, JsonFault, JsonFieldFault};
