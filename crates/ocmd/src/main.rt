@@ -5,6 +5,7 @@ mod audits;
 mod checks;
 mod commands;
 mod ends;
+mod remotes;
 mod scripts;
 mod servers;
 #[cfg(test)]
@@ -12,6 +13,7 @@ mod tests;
 mod words;
 
 use crate::commands::{command, usage};
+use crate::remotes::{asks_remote, run_remote};
 use crate::servers::{asks_serve, run_server};
 use ocm_base::{StdSink, StdSource};
 use ocm_disk::Shelf;
@@ -28,6 +30,9 @@ fn main(rt: HostRuntime) -> ExitCode {
     let mut shelf = Shelf::new(rt.alloc());
     let status = match words_of(&rt) {
         Ok(words) if asks_serve(&words) => run_server(&rt, rt.alloc(), &words, &mut sink),
+        Ok(words) if asks_remote(&words) => {
+            run_remote(&rt, rt.alloc(), &words, &mut source, &mut sink).status()
+        }
         Ok(words) => command(rt.alloc(), &words, &mut source, &mut sink, &mut shelf),
         Err(e) if e.kind() == ErrorKind::OutOfMemory => NO_MEMORY,
         Err(_) => usage(&mut sink),

@@ -1,0 +1,51 @@
+//! The command `dav`.
+ghost use Rattle.std.specs.Prelude.{◌≡◌, ◌⊎◌, ⊥, map};
+ghost use Rattle.std.specs.String.{string_bytes};
+ghost use Rattle.ocm_base.specs.Outside.{Appends, Rose};
+ghost use Rattle.ocm_remote.specs.Exchanges.{AsksPut};
+ghost use Rattle.ocm_remote.specs.Words.{IsOther, usage_line};
+
+use ocm_base::{Sink, Source};
+use ocm_network::TcpDial;
+use ocm_remote::{End, remote};
+use ocm_sockets::Pauses;
+use std::alloc::Global;
+use std::net::{Net, TcpListener, TcpStream};
+use std::sync::{Arc, Wait};
+use std::time;
+
+/// Whether the words behind the program's name ask for a request to a server.
+pub fn asks_remote(words: &[String]) -> bool {
+    match words {
+        [word, ..] => word.as_str() == "dav",
+        [] => false,
+    }
+}
+
+/// Makes the request that the words ask for, over TCP. For words that ask for none it tells the commands.
+pub fn run_remote<
+    R: Wait + time::Clock + Net<Listener = TcpListener, Stream = TcpStream>,
+    S: Source,
+    K: Sink,
+>(
+    rt: &R,
+    alloc: Global,
+    words: &[String],
+    source: &mut S,
+    sink: &mut K,
+) -> End
+    ensures usage { result ≡ End.Usage → IsOther (map (λ word. string_bytes word) words.now) }
+    ensures usage_line { result ≡ End.Usage → Appends (K.taken sink.old) (K.taken sink.new) usage_line }
+    ensures other_words { IsOther (map (λ word. string_bytes word) words.now) → (result ≡ End.Usage) ⊎ (result ≡ End.WriteFault) ⊎ (result ≡ End.NoMemory) }
+    ensures unread { (AsksPut (map (λ word. string_bytes word) words.now) → ⊥) → source.new ≡ source.old }
+    ensures read_fault { result ≡ End.ReadFault → Rose (S.faults source.old) (S.faults source.new) }
+    ensures write_fault { result ≡ End.WriteFault → Rose (K.faults sink.old) (K.faults sink.new) }
+{
+    match Arc::new(alloc, Pauses::new(alloc)) {
+        Ok(pauses) => {
+            let mut dial = TcpDial::new(rt, pauses);
+            remote(alloc, words, source, sink, &mut dial)
+        }
+        Err(_) => End::NoMemory,
+    }
+}
