@@ -1,5 +1,5 @@
 //! The command `dav`.
-ghost use Rattle.std.specs.Prelude.{◌≡◌, ◌⊎◌, ⊥, map};
+ghost use Rattle.std.specs.Prelude.{◌≡◌, ◌⊎◌, map};
 ghost use Rattle.std.specs.String.{string_bytes};
 ghost use Rattle.ocm_base.specs.Outside.{Appends, Rose};
 ghost use Rattle.ocm_remote.specs.Exchanges.{AsksPut};
