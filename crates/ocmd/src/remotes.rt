@@ -27,13 +27,7 @@ pub fn run_remote<
     R: Wait + time::Clock + Net<Listener = TcpListener, Stream = TcpStream>,
     S: Source,
     K: Sink,
->(
-    rt: &R,
-    alloc: Global,
-    words: &[String],
-    source: &mut S,
-    sink: &mut K,
-) -> End
+>(rt: &R, alloc: Global, words: &[String], source: &mut S, sink: &mut K) -> End
     ensures usage { result ≡ End.Usage → IsOther (map (λ word. string_bytes word) words.now) }
     ensures usage_line { result ≡ End.Usage → Appends (K.taken sink.old) (K.taken sink.new) usage_line }
     ensures other_words { IsOther (map (λ word. string_bytes word) words.now) → (result ≡ End.Usage) ⊎ (result ≡ End.WriteFault) ⊎ (result ≡ End.NoMemory) }
