@@ -10,8 +10,6 @@ mod files;
 mod histories;
 mod numbers;
 mod shares;
-#[cfg(test)]
-mod tests;
 mod users;
 
 pub use answers::answer;

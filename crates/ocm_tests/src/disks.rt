@@ -4,7 +4,7 @@ ghost use Rattle.ocm_base.specs.Outside.{Rose};
 ghost use Rattle.ocm_disk.specs.Disk.{Only, Holds, Torn};
 
 use ocm_base::Failed;
-use ocm_disk::{Crash, Disk, FileDisk, MemDisk, Shelf, ShelfFault};
+use ocm_disk::{Disk, FileDisk, MemDisk, Shelf, ShelfFault};
 use ocm_types::Host;
 use std::alloc::Global;
 use std::test::Fail;
@@ -61,57 +61,6 @@ fn changed(alloc: Global) -> Result<MemDisk, Failed> {
     shorten(&mut disk, 18)?;
     put(&mut disk, 18, b"YYY")?;
     Ok(disk)
-}
-
-#[test]
-fn a_crash_leaves_one_of_three(rt: HostRuntime) -> Result<(), Fail> {
-    for (mode, bytes) in [
-        (Crash::Old, b"abcdefghijklmnopqrst".as_slice()),
-        (Crash::New, b"abcXXXXXXXXXmnopqrYYY".as_slice()),
-        (
-            Crash::Torn,
-            b"abc\xee\xee\xee\xee\xee\xee\xee\xee\xeemnopqr\xee\xee\xee".as_slice(),
-        ),
-    ] {
-        let disk = changed(rt.alloc())?.crash(mode);
-        assert_eq!(rt; disk.bytes(), bytes);
-        assert_eq!(rt; disk.crash(Crash::Old).bytes(), bytes);
-    }
-    Ok(())
-}
-
-#[test]
-fn a_fuse_passes_so_many_calls(rt: HostRuntime) -> Result<(), Fail> {
-    let mut disk = changed(rt.alloc())?;
-    disk.fuse(3);
-    assert_eq!(rt; first_four(&mut disk), Ok(*b"abcX"));
-    assert_eq!(rt; put(&mut disk, 0, b"Z"), Ok(()));
-    assert_eq!(rt; shorten(&mut disk, 5), Ok(()));
-    assert_eq!(rt; disk.sync(), Err(Failed));
-    assert_eq!(rt; shorten(&mut disk, 0), Err(Failed));
-    assert_eq!(rt; disk.faults(), 2);
-    assert_eq!(rt; disk.bytes(), b"ZbcXX".as_slice());
-    let mut left = disk.crash(Crash::Old);
-    assert_eq!(rt; left.faults(), 0);
-    assert_eq!(rt; left.sync(), Ok(()));
-    Ok(())
-}
-
-#[test]
-fn many_moments_take_no_memory(rt: HostRuntime) -> Result<(), Fail> {
-    let mut disk = MemDisk::new(rt.alloc());
-    disk.room(1000)?;
-    let room = disk.room(u64::MAX).is_err();
-    assert!(rt; room);
-    for _ in 0..1000 {
-        let end = disk.len();
-        assert!(rt; put(&mut disk, end, b"x").is_ok());
-        assert!(rt; disk.sync().is_ok());
-    }
-    assert_eq!(rt; disk.len(), 1000);
-    assert_eq!(rt; put(&mut disk, 1000, b"y"), Err(Failed));
-    assert_eq!(rt; disk.faults(), 1);
-    Ok(())
 }
 
 #[test]
