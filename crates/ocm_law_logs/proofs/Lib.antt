@@ -1,0 +1,4 @@
+pub mod Bare
+pub mod Growing
+pub mod Fronts
+pub mod Truths

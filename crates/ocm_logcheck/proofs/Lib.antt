@@ -1,0 +1,10 @@
+pub mod Prefixes
+pub mod Moments
+pub mod Behind
+pub mod Taking
+pub mod Looking
+pub mod Going
+pub mod EmptyLists
+pub mod Labels
+pub mod Proper
+pub mod Telling
