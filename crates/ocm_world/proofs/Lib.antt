@@ -9,3 +9,7 @@ pub mod Storing
 pub mod Shelving
 pub mod Talking
 pub mod Paging
+pub mod Chains
+pub mod Hosts
+pub mod Drilling
+pub mod Logging

@@ -1,5 +1,5 @@
 -- Servers that are loaded from their disks, and what is read of them.
-use Rattle.std.proofs.Common.{◌≡◌, ◌⊎◌, inl, inr, ℕ, List, [], ◌∷◌, ◌++◌, Bool, true, false, Option, Some, None, refl, sym, ◌∙◌, ap, subst, rules, Result, Ok, Err}
+use Rattle.std.proofs.Common.{◌≡◌, ◌⊎◌, inl, inr, ℕ, List, [], ◌∷◌, ◌++◌, Bool, true, false, Option, Some, None, refl, sym, ◌∙◌, ap, subst, rules, Result, Ok}
 use Rattle.std.specs.Prelude.{option_map}
 use Rattle.std.specs.Option.{option_or}
 use Rattle.ocm_disk.specs.Memory.{DiskState, ImagesState, left_by, settled}
@@ -15,6 +15,7 @@ use Rattle.ocm_rules.specs.History.{IsLegal, kept}
 use Rattle.ocm_rules.specs.Lean.{count, lean}
 use Rattle.ocm_rules.specs.Messages.{as_sent, out}
 use Rattle.ocm_rules.specs.Numbers.{at_number}
+use Rattle.ocm_rules.specs.Shares.{moment}
 use Rattle.ocm_rules.specs.Views.{View}
 use Rattle.ocm_law_lean.proofs.Answered.{lean-goes_on}
 use Rattle.ocm_law_lean.proofs.Thin.{count-same}
@@ -186,3 +187,8 @@ message-same node server number is =
 pub count-of : (node : Node) (server : Server) (is : IsOf node server) → count (host_of node.store) (server.calls ++ is.opened) ≡ count server.host (history server)
 count-of node server is =
     ap (λ h. count h (server.calls ++ is.opened)) (same-host node server is) ∙ count-same server.host (server.calls ++ is.opened) (history server) (alike-history node server is)
+
+pub moment-of : (node : Node) (server : Server) (is : IsOf node server) → moment (kept (host_of node.store) (server.calls ++ is.opened)) ≡ moment (kept server.host (history server))
+moment-of node server is =
+    ap (λ h. moment (kept h (server.calls ++ is.opened))) (same-host node server is)
+    ∙ ap (λ (v : View). v.moment) (view-same server.host (server.calls ++ is.opened) (history server) (alike-history node server is))

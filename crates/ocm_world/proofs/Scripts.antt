@@ -1,6 +1,5 @@
 -- The lines of a script, one after another.
-use Rattle.std.proofs.Common.{◌≡◌, ◌<◌, ℕ, ◌+◌, List, [], ◌∷◌, ◌++◌, length, get_or, take, drop, refl, sym, ap, ◌∙◌, append_assoc, append-nil, add-one, subst, Option, Some, None}
-use Rattle.std.proofs.Math.Seq.{drop-cons}
+use Rattle.std.proofs.Common.{◌≡◌, ◌<◌, ℕ, ◌+◌, List, [], ◌∷◌, ◌++◌, length, get_or, take, drop, refl, sym, ap, ◌∙◌, append_assoc, append-nil, subst, Option, Some, None}
 use Rattle.std.proofs.lemmas.List.{take-append-drop}
 use Rattle.ocm_base.specs.Outside.{Appends, AppendsPart}
 use Rattle.ocm_base.proofs.Pieces.{Appends-twice}
@@ -12,23 +11,21 @@ use Rattle.ocm_world.specs.Talks.{no_memory_lines, stuck}
 use Rattle.ocm_world.specs.Deliveries.{Run}
 use Rattle.ocm_world.specs.Transcript.{IsRun, Talked, Transcript, Writes, WritesPart, run}
 use Rattle.ocm_world.specs.Running.{AreOf, Ran}
+use Rattle.ocm_world.proofs.Chains.{LeadsOn, LeadsOn-at, LeadsOn-end, LeadsOn-more, LeadsOn-start}
 
 appends_nothing : (old : Option (List ℕ)) → Appends old old []
 appends_nothing None = refl
 appends_nothing (Some held) = ap Some (sym (append-nil held))
 
--- so far, whatever the rest prints, what was written and that is a transcript of the whole
+-- so far this was written, and what the rest prints leads on
 pub record GoesOn (all : List Event) (nodes : List Node) (number : ℕ) (rest : List Event) (old new : Option (List ℕ)) : Type 0 where
-  pub world : World
   pub text : List ℕ
-  pub stands : AreOf nodes world
   pub appends : Appends old new text
-  pub on : (t : List ℕ) (final : World) → Transcript world number rest t final → Transcript [] 1 all (text ++ t) final
+  pub leads : LeadsOn Transcript all nodes number rest text
 
 -- before the first line
 pub GoesOn-start : (all : List Event) (nodes : List Node) (old : Option (List ℕ)) → nodes ≡ [] → GoesOn all nodes 1 all old old
-GoesOn-start all [] old none = record { world = []; text = []; stands = tt; appends = appends_nothing old; on = λ t final k. k }
-GoesOn-start all (one ∷ more) old none = cc
+GoesOn-start all nodes old none = record { text = []; appends = appends_nothing old; leads = LeadsOn-start Transcript all nodes none }
 
 -- a connection ends at once where there is no memory
 some_talk : (w : World) (n : ℕ) (host fresh bytes : List ℕ) (found : Option Server) → (line : Run) × Talked w n host fresh bytes found line
@@ -51,19 +48,17 @@ some_transcript w n (e ∷ es) =
 
 -- at an event of the script
 pub GoesOn-at : (all : List Event) (nodes : List Node) (n : ℕ) (es : List Event) (i : ℕ) (e : Event) (old new : Option (List ℕ)) → i < length es → e ≡ get_or es i e → GoesOn all nodes n (drop i es) old new → GoesOn all nodes n (e ∷ drop (i + 1) es) old new
-GoesOn-at all nodes n es i e old new lt is h = rw (add-one, is, ← drop-cons es i e lt) h
+GoesOn-at all nodes n es i e old new lt is h = record { text = h.text; appends = h.appends; leads = LeadsOn-at Transcript all nodes n es i e h.text lt is h.leads }
 
 -- one event on
 pub GoesOn-more : (all : List Event) (nodes after : List Node) (n : ℕ) (e : Event) (es : List Event) (text : List ℕ) (old mid new : Option (List ℕ)) → GoesOn all nodes n (e ∷ es) old mid
     → ((w : World) → AreOf nodes w → Ran (IsRun w n e) after text) → Appends mid new text → GoesOn all after (n + 1) es old new
 GoesOn-more all nodes after n e es text old mid new h f appends =
-    let d = f h.world h.stands in
+    let d = f h.leads.world h.leads.stands in
     record {
-      world = d.line.world;
       text = h.text ++ text;
-      stands = d.stands;
       appends = Appends-twice old mid new _ _ h.appends appends;
-      on = λ t final k. rw append_assoc (h.on (text ++ t) final (d.line, t, d.is, ap (λ x. x ++ t) d.printed, k));
+      leads = LeadsOn-more Transcript all nodes after n e es h.text text h.leads d.line.world d.stands (λ t final k. (d.line, t, d.is, ap (λ x. x ++ t) d.printed, k));
     }
 
 split_apart : (a p r : List ℕ) (k : ℕ) → (a ++ take k p) ++ (drop k p ++ r) ≡ a ++ (p ++ r)
@@ -73,10 +68,10 @@ split_apart a p r k = append_assoc a (take k p) (drop k p ++ r) ∙ ap (λ x. a 
 pub WritesPart-cut : (all : List Event) (nodes after : List Node) (n : ℕ) (e : Event) (es : List Event) (text : List ℕ) (old mid new : Option (List ℕ)) → GoesOn all nodes n (e ∷ es) old mid
     → ((w : World) → AreOf nodes w → Ran (IsRun w n e) after text) → AppendsPart mid new text → WritesPart all old new
 WritesPart-cut all nodes after n e es text old mid new h f part =
-    let d = f h.world h.stands in
+    let d = f h.leads.world h.leads.stands in
     let k = part.0 in
     let r = some_transcript d.line.world (n + 1) es in
-    let whole : Transcript _ _ all (h.text ++ (text ++ r.0)) r.1 = h.on (text ++ r.0) r.1 (d.line, r.0, d.is, ap (λ x. x ++ r.0) d.printed, r.2) in (
+    let whole : Transcript _ _ all (h.text ++ (text ++ r.0)) r.1 = h.leads.on (text ++ r.0) r.1 (d.line, r.0, d.is, ap (λ x. x ++ r.0) d.printed, r.2) in (
       h.text ++ take k text,
       drop k text ++ r.0,
       r.1,
@@ -87,14 +82,15 @@ WritesPart-cut all nodes after n e es text old mid new h f part =
 -- where a line is not run, a front of a transcript is written
 pub WritesPart-stop : (all : List Event) (nodes : List Node) (n : ℕ) (es : List Event) (old new : Option (List ℕ)) → GoesOn all nodes n es old new → WritesPart all old new
 WritesPart-stop all nodes n es old new h =
-    let r = some_transcript h.world n es in
-    (h.text, r.0, r.1, h.appends, h.on r.0 r.1 r.2)
+    let r = some_transcript h.leads.world n es in
+    (h.text, r.0, r.1, h.appends, h.leads.on r.0 r.1 r.2)
 
 -- at the end
 pub Writes-from_end : (all : List Event) (nodes : List Node) (n : ℕ) (es : List Event) (old new : Option (List ℕ)) → es ≡ [] → GoesOn all nodes n es old new
     → (final : World) × Writes all old new final × AreOf nodes final
-Writes-from_end all nodes n [] old new e h = (h.world, (h.text, h.appends, rw append-nil at (h.on [] h.world (refl, refl))), h.stands)
-Writes-from_end all nodes n (x ∷ es) old new e h = cc
+Writes-from_end all nodes n es old new e h =
+    let ended = LeadsOn-end Transcript all nodes n es h.text e (λ w. (refl, refl)) h.leads in
+    (ended.0, (h.text, h.appends, ended.1), ended.2)
 
 -- a whole transcript is a front of one
 pub WritesPart-whole : (all : List Event) (old new : Option (List ℕ)) (final : World) → Writes all old new final → WritesPart all old new

@@ -5,3 +5,5 @@ pub mod Talks
 pub mod Transcript
 pub mod Shelves
 pub mod Running
+pub mod Drills
+pub mod Traces

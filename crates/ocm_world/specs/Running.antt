@@ -4,9 +4,12 @@ use Rattle.ocm_disk.specs.Memory.{DiskState}
 use Rattle.ocm_disk.specs.contracts.memory.MemDiskDisk.TheImpl.{ghosts}
 use Rattle.ocm_disk.specs.declared.shelf.Place.{Place}
 use Rattle.ocm_entry.specs.declared.asks.Ask.{Ask}
+use Rattle.ocm_entry.specs.declared.asks.Ask.TheVariants as asks
+use Rattle.ocm_entry.specs.declared.asks.Method.{Method}
 use Rattle.ocm_entry.specs.declared.entries.Entry.{Entry}
 use Rattle.ocm_entry.specs.declared.replies.Reply.{Reply}
 use Rattle.ocm_image.specs.Blank.{IsBlank}
+use Rattle.ocm_path.specs.Paths.{Segments}
 use Rattle.ocm_rules.specs.Lean.{lean}
 use Rattle.ocm_rules.specs.Numbers.{same_text}
 use Rattle.ocm_law_sessions.specs.Sessions.{IsSession, fault_in}
@@ -16,7 +19,9 @@ use Rattle.ocm_http.specs.declared.messages.Message.{Message}
 use Rattle.ocm_dav.specs.declared.configs.Config.{Config}
 use Rattle.ocm_dav.specs.Routes.{wanted_of}
 use Rattle.ocm_world.specs.declared.nodes.Node.{Node}
-use Rattle.ocm_world.specs.Servers.{Server, World, area, asked_at, reply_at}
+use Rattle.ocm_script.specs.declared.events.Event.{Event}
+use Rattle.ocm_world.specs.Servers.{Server, World, area, asked_at, reply_at, server_at}
+use Rattle.ocm_world.specs.Traces.{IsLogged, logged_at}
 use Rattle.ocm_world.specs.Deliveries.{Run}
 use Rattle.ocm_world.specs.Talks.{Answers, closes, no_memory_lines, page_lines}
 
@@ -50,6 +55,22 @@ AreOf (node ∷ more) [] = ⊥
 -- an ask at the server of a host was answered so: for some answer to whether memory was wanting, the reply is that of the rules, and the stores stand for the servers after it
 abbrev pub Asks : World → List Node → List ℕ → Ask → Option Reply → Type 0
 Asks world new host ask reply = (wanting : Bool) × (reply ≡ reply_at wanting world host ask) × AreOf new (asked_at wanting world host ask)
+
+-- the server of this host was found, or there is none
+abbrev pub Finds : World → List ℕ → Option Node → Type 0
+Finds world host None = server_at world host ≡ None
+Finds world host (Some node) = (server : Server) × (server_at world host ≡ Some server) × IsOf node server
+
+-- a read was asked at the server of this host, and this was logged of it
+abbrev pub LogsRead : World → List Node → List ℕ → Method → List ℕ → Segments → List ℕ → Type 0
+LogsRead world new host method secret path log =
+    (wanting : Bool) × (log ≡ logged_at wanting world host method secret path) × AreOf new (asked_at wanting world host (asks.Dav secret method path []))
+
+-- a line was run, and this was logged of it at the server of this host
+pub record Logs (world : World) (number : ℕ) (host : List ℕ) (e : Event) (new : List Node) (log : List ℕ) : Type 0 where
+  pub line : Run
+  pub is : IsLogged world number host e line log
+  pub stands : AreOf new line.world
 
 -- a line was run: for some answers to whether memory was wanting it printed this text, and the stores stand for the servers after it
 abbrev pub Runs : (List Bool → Run) → List Node → List ℕ → Type 0

@@ -48,7 +48,7 @@ pub fn ask_of(alloc: Global, event: &Event) -> Result<Option<Ask>, NoMemory>
             secret,
             method,
             path,
-        } => dav_ask(alloc, secret, *method, path),
+        } => Ok(Some(dav_ask(alloc, secret, *method, path)?)),
         Event::Put {
             host: _,
             secret,
@@ -87,23 +87,19 @@ fn local_ask(key: &Secret, cmd: &Cmd) -> Result<Option<Ask>, NoMemory>
     Ok(Some(Ask::Local { key, cmd }))
 }
 
-fn dav_ask(
-    alloc: Global,
-    secret: &Secret,
-    method: Method,
-    path: &Path,
-) -> Result<Option<Ask>, NoMemory>
-    ensures { IfOk result (λ ask. ask ≡ Some (asks.Dav secret.now method path.now [])) }
+/// The ask of a request without a body.
+pub fn dav_ask(alloc: Global, secret: &Secret, method: Method, path: &Path) -> Result<Ask, NoMemory>
+    ensures { IfOk result (λ ask. ask ≡ asks.Dav secret.now method path.now []) }
 {
     let secret = secret.copy()?;
     let path = path.copy()?;
     let body = Bytes::new(alloc);
-    Ok(Some(Ask::Dav {
+    Ok(Ask::Dav {
         secret,
         method,
         path,
         body,
-    }))
+    })
 }
 
 fn put_ask(

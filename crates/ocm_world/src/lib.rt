@@ -3,11 +3,16 @@
 
 mod asked;
 mod deliveries;
+mod drills;
+pub mod laws;
 mod nodes;
 mod replays;
 mod runs;
 mod servers;
 mod talks;
+mod traces;
 
+pub use drills::drill;
 pub use ocm_script::{Body, Event, ScriptFault, read_script};
 pub use replays::{WorldFault, replay};
+pub use traces::{names, trace};

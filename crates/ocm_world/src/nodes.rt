@@ -2,7 +2,9 @@
 ghost use Rattle.std.specs.Prelude.{◌≡◌, Bool, IfOk, IsTrue, None, Some, option_copied};
 ghost use Rattle.ocm_entry.specs.Fitting.{Fits};
 ghost use Rattle.ocm_entry.specs.Proper.{is_proper};
+ghost use Rattle.ocm_rules.specs.History.{kept};
 ghost use Rattle.ocm_rules.specs.Lean.{count};
+ghost use Rattle.ocm_rules.specs.Shares.{moment};
 ghost use Rattle.ocm_world.specs.Running.{IsDiskOf, IsLoaded, IsOf, IsSound, is_at};
 ghost use Rattle.ocm_world.specs.Servers.{Server, crashed, history, message_of, reply_of, server_after};
 ghost use Rattle.ocm_store.specs.Stores.{disk_of};
@@ -86,6 +88,13 @@ impl Node {
         ensures { (server : Server) → IsOf self.now server → result ≡ count server.host (history server) }
     {
         self.store.kept()
+    }
+
+    /// The moment of its last tick, in whole seconds since the epoch, and 0 before the first.
+    pub fn moment(&self) -> u64
+        ensures { (server : Server) → IsOf self.now server → result ≡ moment (kept server.host (history server)) }
+    {
+        self.store.moment()
     }
 
     /// From now on so many device calls of its disk pass.

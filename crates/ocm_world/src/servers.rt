@@ -4,7 +4,7 @@ ghost use Rattle.ocm_disk.specs.Memory.{settled};
 ghost use Rattle.ocm_disk.specs.Shelf.{refusal};
 ghost use Rattle.ocm_entry.specs.Proper.{is_proper};
 ghost use Rattle.ocm_world.specs.Deliveries.{Run};
-ghost use Rattle.ocm_world.specs.Running.{AreOf, Asks, Ran, is_at, shelved};
+ghost use Rattle.ocm_world.specs.Running.{AreOf, Asks, Finds, Ran, is_at, shelved};
 ghost use Rattle.ocm_world.specs.Servers.{Server, World, crashed, message_at, new_server, server_at, step_at};
 ghost use Rattle.ocm_world.specs.Shelves.{AreShelved};
 ghost use Rattle.ocm_world.specs.Transcript.{Talked, kept_at};
@@ -66,6 +66,16 @@ impl Servers {
                 drop(ask);
                 None
             }
+        }
+    }
+
+    /// The server of this host. None where no server has the host.
+    pub fn find(&self, host: &Host) -> Option<&Node>
+        ensures { (world : World) → AreOf self.now world → Finds world host.now (option_copied result) }
+    {
+        match self.place_of(host) {
+            Some(place) => Some(&self.nodes[place]),
+            None => None,
         }
     }
 

@@ -33,4 +33,4 @@ pub returns-clause-ok : goal.returns-clause-ok
 returns-clause-ok g c = Writes-from_end _ _ _ _ _ _ (drop_all c.loop-event.event-index c.args.events.now (omega arith)) c.loop-event.invariant.goes_on
 
 pub run-requires-clause-stands : goal.run-requires-clause-stands
-run-requires-clause-stands g c = (c.loop-event.invariant.goes_on.world, c.loop-event.invariant.goes_on.stands)
+run-requires-clause-stands g c = (c.loop-event.invariant.goes_on.leads.world, c.loop-event.invariant.goes_on.leads.stands)

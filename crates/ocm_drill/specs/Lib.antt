@@ -1,0 +1,4 @@
+pub mod Draws
+pub mod Federation
+pub mod Script
+pub mod Summary

@@ -1,0 +1,19 @@
+use Rattle.std.proofs.Common.{inr, subst, ◌∙◌}
+use Rattle.std.proofs.lemmas.Result.{err_from_is_err_and}
+use Rattle.ocm_base.specs.Outside.{Appends}
+use Rattle.ocm_world.proofs.Drilling.{DrillsPart-cut}
+use Rattle.ocm_world.proofs.drills.drill.Goals as goal
+
+pub returns-clause-ok : goal.returns-clause-ok
+returns-clause-ok g c =
+    let ran = c.in_ok-summary.ensures in
+    (ran.1, (ran.0, ran.2, subst (Appends (g.K.Sink.taken c.args.sink.now) (g.K.Sink.taken c.write_all.new.sink)) (c.as_slice.ensures ∙ ran.4) c.in_ok-write_all.ensures.ok), c.in_ok-shelve.ensures ran.1 ran.3)
+
+pub returns-in_err-write_all-clause-shelved : goal.returns-in_err-write_all-clause-shelved
+returns-in_err-write_all-clause-shelved g c = λ _. (c.in_ok-summary.ensures.1, c.in_ok-shelve.ensures c.in_ok-summary.ensures.1 c.in_ok-summary.ensures.3)
+
+pub returns-in_err-write_all-clause-err : goal.returns-in_err-write_all-clause-err
+returns-in_err-write_all-clause-err g c =
+    let p = err_from_is_err_and c.from_residual-in_err-write_all.result c.from_residual-in_err-write_all.ensures.1 in
+    let ran = c.in_ok-summary.ensures in
+    rw p.1 (inr (DrillsPart-cut c.args.number c.args.events ran.0 ran.1 c.in_ok-summary.summary _ _ ran.2 ran.4 (rw c.as_slice.ensures at c.in_err-write_all.ensures.err)))
