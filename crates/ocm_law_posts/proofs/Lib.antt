@@ -1,0 +1,13 @@
+pub mod Answers
+pub mod Documents
+pub mod EndPoints
+pub mod Fitting
+pub mod Heads
+pub mod Messages
+pub mod Names
+pub mod Pages
+pub mod Replying
+pub mod Routes
+pub mod Sites
+pub mod Spelled
+pub mod Written

@@ -1,0 +1,5 @@
+pub mod Answers
+pub mod Documents
+pub mod Letters
+pub mod Names
+pub mod Posts

@@ -1,0 +1,10 @@
+pub mod Finding
+pub mod Replies
+pub mod Steps
+pub mod Asking
+pub mod Sending
+pub mod Delivering
+pub mod Talking
+pub mod Lines
+pub mod Printing
+pub mod Transcripts
