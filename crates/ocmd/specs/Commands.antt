@@ -1,54 +1,41 @@
 use Rattle.std.specs.Prelude.{◌≡◌, ℕ, ◌<◌, ◌≤◌, ◌⊎◌, List, [], ◌∷◌, ◌++◌, length, Option, Some, None, codes, Result, Ok, Err}
-use Rattle.std.specs.Fmt.{decimal}
 use Rattle.ocm_base.specs.Outside.{Appends}
-use Rattle.ocm_script.specs.declared.events.Event.{Event}
-use Rattle.ocm_script.specs.declared.faults.ScriptFault.TheVariants as ends
-use Rattle.ocm_script.specs.Script.{script_of}
 use Rattle.ocm_disk.specs.declared.shelf.Place.{Place}
-use Rattle.ocm_world.specs.Servers.{World}
-use Rattle.ocm_world.specs.Shelves.{AreShelved}
-use Rattle.ocm_world.specs.Transcript.{Transcript}
+use Rattle.ocm_script.specs.Script.{script_of}
+use Rattle.ocm_script.specs.declared.faults.ScriptFault.TheVariants as ends
 use Rattle.ocmd.specs.declared.ends.End.{End}
 use Rattle.ocmd.specs.declared.ends.End.TheVariants as whole
 use Rattle.ocmd.specs.declared.ends.Fault.{Fault}
 use Rattle.ocmd.specs.declared.ends.Fault.TheVariants as faults
+use Rattle.ocmd.specs.declared.help.TheConstants.{HELP, VERSION}
 use Rattle.ocmd.specs.declared.words.Command.{Command}
 use Rattle.ocmd.specs.declared.words.Command.TheVariants as commands
 use Rattle.ocmd.specs.Audits.{AuditsTo}
 use Rattle.ocmd.specs.Checks.{Checks}
+use Rattle.ocmd.specs.Logchecks.{LogchecksTo}
+use Rattle.ocmd.specs.Scripts.{DrillsTo, Replays, TracesTo}
 use Rattle.ocmd.specs.Words.{most_bytes}
 
 -- the line that tells the commands
 abbrev pub usage_line : List ℕ
 usage_line = codes "usage: ocmd replay|audit|check KIND|drill NUMBER EVENTS|serve OPTIONS|dav VERB HOST SECRET PATH" ++ 10 ∷ []
 
--- the line that names a bad line of a script
-abbrev pub bad_line : ℕ → List ℕ
-bad_line number = codes "bad line " ++ decimal number ++ 10 ∷ []
-
--- the shelf, where it is told, has the disks of these servers
-abbrev pub IfShelved : Option (List Place) → World → Type 0
-IfShelved (Some places) final = AreShelved final places
-IfShelved None final = Unit {0}
-
--- A script gives the status 0 and its transcript, and puts the disks of its servers on the shelf. Bytes with a line that is no event give the status 2 and the number of the first such line.
-abbrev pub Replays : List ℕ → End → List ℕ → Option (List Place) → Type 0
-Replays bytes whole.Done text shelf = (events : List Event) × (final : World) × (script_of bytes ≡ Ok events) × Transcript [] 1 events text final × IfShelved shelf final
-Replays bytes whole.Record text shelf = ⊥
-Replays bytes whole.NotJournal text shelf = ⊥
-Replays bytes whole.Script text shelf = (number : ℕ) × (script_of bytes ≡ Err (ends.Line number)) × (text ≡ bad_line number)
-
 -- on these bytes the command has this end, writes this text, and leaves this shelf, where that is told
 abbrev pub Gives : Command → List ℕ → End → List ℕ → Option (List Place) → Type 0
 Gives commands.Replay bytes end text shelf = Replays bytes end text shelf
+Gives (commands.Trace host) bytes end text shelf = TracesTo host bytes end text shelf
 Gives commands.Audit bytes end text shelf = AuditsTo bytes end text
+Gives commands.Logcheck bytes end text shelf = LogchecksTo bytes end text
 Gives (commands.Check kind) bytes end text shelf = Checks kind bytes end text
+Gives (commands.Drill number events) bytes end text shelf = DrillsTo number events end text shelf
+Gives commands.Help bytes end text shelf = (end ≡ whole.Done) × (text ≡ HELP.now)
+Gives commands.Version bytes end text shelf = (end ≡ whole.Done) × (text ≡ VERSION.now)
 
 -- the bytes are more than the command takes, or a script has too many lines
 abbrev pub IsLong : Command → List ℕ → Type 0
 IsLong commands.Replay bytes = (most_bytes commands.Replay < length bytes) ⊎ (script_of bytes ≡ Err ends.TooMany)
-IsLong commands.Audit bytes = most_bytes commands.Audit < length bytes
-IsLong (commands.Check kind) bytes = most_bytes (commands.Check kind) < length bytes
+IsLong (commands.Trace host) bytes = (most_bytes (commands.Trace host) < length bytes) ⊎ (script_of bytes ≡ Err ends.TooMany)
+IsLong command bytes = most_bytes command < length bytes
 
 -- the command took the bytes, had this end, added its text and left this shelf
 abbrev pub Writes : Command → List ℕ → End → Option (List ℕ) → Option (List ℕ) → List Place → Type 0
@@ -66,6 +53,7 @@ end_status whole.Done = 0
 end_status whole.Script = 2
 end_status whole.NotJournal = 7
 end_status whole.Record = 8
+end_status whole.False = 17
 
 -- the number is the status of a run whose text is whole
 abbrev pub IsWhole : ℕ → Type 0

@@ -6,9 +6,10 @@ ghost use Rattle.ocm_disk.specs.declared.shelf.Place.{Place};
 ghost use Rattle.ocmd.specs.Words.{most_bytes};
 
 use crate::ends::{End, Fault};
+use crate::lines::numbered_line;
 use crate::words::Command;
 use ocm_audit::{AuditFault, audit};
-use ocm_base::{Bytes, NoMemory, Sink, write_all};
+use ocm_base::{Sink, write_all};
 use std::alloc::Global;
 
 /// Tells what the records of the journal's file say that these bytes are, or names the place where they are no journal.
@@ -36,17 +37,7 @@ fn name_place<K: Sink>(alloc: Global, place: u64, sink: &mut K) -> Result<End, F
     ensures no_read_fault { result ≢ Err Fault.ReadFault }
     ensures write_fault { result ≡ Err Fault.WriteFault → Rose (K.faults sink.old) (K.faults sink.new) }
 {
-    let line = not_journal_line(alloc, place)?;
+    let line = numbered_line(alloc, b"not a journal at ", place)?;
     write_all(sink, line.as_slice())?;
     Ok(End::NotJournal)
-}
-
-fn not_journal_line(alloc: Global, place: u64) -> Result<Bytes, NoMemory>
-    ensures { IfOk result (λ text. text ≡ not_journal place) }
-{
-    let digits = place.to_string(alloc)?;
-    let mut text = Bytes::of(alloc, b"not a journal at ")?;
-    text.add(digits.as_bytes())?;
-    text.add(b"\n")?;
-    Ok(text)
 }

@@ -5,12 +5,14 @@ use ocm_base::{Failed, NoMemory};
 pub enum End {
     /// It was done: status 0.
     Done,
-    /// A line of the script is no event: status 2.
+    /// A line of the script or of the log is bad, or what is to be read is not there: status 2.
     Script,
     /// The bytes are no journal: status 7.
     NotJournal,
     /// The bytes are no such record: status 8.
     Record,
+    /// A line of the log is false: status 17.
+    False,
 }
 
 /// Why a command was not done.

@@ -4,12 +4,17 @@
 mod audits;
 mod checks;
 mod commands;
+mod drills;
 mod ends;
+mod help;
+mod lines;
+mod logchecks;
 mod remotes;
 mod scripts;
 mod servers;
 #[cfg(test)]
 mod tests;
+mod traces;
 mod words;
 
 use crate::commands::{command, usage};

@@ -1,11 +1,12 @@
 ghost use Rattle.std.specs.Prelude.{◌≡◌, ◌≢◌, ◌≤◌, [], OnErr, IfOk, length};
-ghost use Rattle.ocm_base.specs.Outside.{Appends, AppendsPart, Rose};
-ghost use Rattle.ocmd.specs.Commands.{IsLong, Writes, WritesPart, bad_line};
+ghost use Rattle.ocm_base.specs.Outside.{Rose};
+ghost use Rattle.ocmd.specs.Commands.{IsLong, Writes, WritesPart};
 ghost use Rattle.ocmd.specs.Words.{most_bytes};
 
 use crate::ends::{End, Fault};
+use crate::lines::name_line;
 use crate::words::Command;
-use ocm_base::{Bytes, NoMemory, Sink, write_all};
+use ocm_base::Sink;
 use ocm_disk::Shelf;
 use ocm_script::{ScriptFault, read_script};
 use ocm_world::{WorldFault, replay};
@@ -29,7 +30,7 @@ pub fn run_script<K: Sink>(
 {
     let events = match read_script(alloc, bytes) {
         Ok(events) => events,
-        Err(ScriptFault::Line(number)) => return name_line(alloc, number, sink),
+        Err(ScriptFault::Line(number)) => return name_line(alloc, number as u64, sink),
         Err(ScriptFault::TooMany) => return Err(Fault::TooLong),
         Err(ScriptFault::NoMemory) => return Err(Fault::NoMemory),
     };
@@ -38,27 +39,4 @@ pub fn run_script<K: Sink>(
         Err(WorldFault::WriteFault) => Err(Fault::WriteFault),
         Err(WorldFault::NoMemory) => Err(Fault::NoMemory),
     }
-}
-
-/// Names the first bad line of a script.
-fn name_line<K: Sink>(alloc: Global, number: u32, sink: &mut K) -> Result<End, Fault>
-    ensures whole { IfOk result (λ end. (end ≡ End.Script) × Appends (K.taken sink.old) (K.taken sink.new) (bad_line number)) }
-    ensures part { OnErr result (AppendsPart (K.taken sink.old) (K.taken sink.new) (bad_line number)) }
-    ensures not_long { result ≢ Err Fault.TooLong }
-    ensures no_read_fault { result ≢ Err Fault.ReadFault }
-    ensures write_fault { result ≡ Err Fault.WriteFault → Rose (K.faults sink.old) (K.faults sink.new) }
-{
-    let line = bad_line_text(alloc, number)?;
-    write_all(sink, line.as_slice())?;
-    Ok(End::Script)
-}
-
-fn bad_line_text(alloc: Global, number: u32) -> Result<Bytes, NoMemory>
-    ensures { IfOk result (λ text. text ≡ bad_line number) }
-{
-    let digits = number.to_string(alloc)?;
-    let mut text = Bytes::of(alloc, b"bad line ")?;
-    text.add(digits.as_bytes())?;
-    text.add(b"\n")?;
-    Ok(text)
 }

@@ -1,0 +1,46 @@
+//! What `help` and `version` write.
+
+/// The commands, the options of `serve` and the exit statuses, on one screen.
+pub const HELP: &[u8] = br"ocmd: a file sharing server after Open Cloud Mesh API 1.1, and its tools
+
+Usage: ocmd COMMAND ..
+
+  replay                 read a script, write its transcript
+  trace HOST             read a script, write HOST's journal and log of reads
+  audit                  read a journal's file, write what its records say
+  logcheck               read what trace writes, test each line of the log
+  check KIND             read a message body, write its one form or its fault
+  drill NUMBER EVENTS    run a script made of NUMBER, write its summary
+  serve OPTIONS          run a server until it is killed
+  dav VERB HOST SECRET PATH
+                         ask a server: get and list write, put reads a file
+  help, --help           write this text
+  version, --version     write the version
+
+KIND is discovery, offer, notice or error. VERB is get, put, delete, mkcol or
+list. EVENTS is at most 90000. What is read is the standard input, and what is
+written the standard output.
+
+Options of serve, of which the first three have to be there:
+  --host HOST            the server's name, with :PORT where that is not 80
+  --disk FILE            the journal's file
+  --admin KEY            the administrator's key
+  --listen ADDRESS       where to listen; default 127.0.0.1:8080
+  --workers NUMBER       how many threads, 1 to 64; default 4
+  --key-file FILE        32 random bytes; default /dev/urandom
+  --connections NUMBER   for each worker, 0 for no end; default 0
+
+Exit status:
+   0  done                             9  the input is too long
+   1  no such command                 10  serve: another host's journal
+   2  a bad line in the input         11  serve: no more connections
+   3  the input can't be read         12  serve: address or file not usable
+   4  the output can't be written     13  dav: the exchange failed
+   5  out of memory                   14  dav: what came back is no reply
+   6  serve: the disk failed          15  dav: the server refused
+   7  the file is no journal          16  dav: no discovery document
+   8  the message body has a fault    17  a line of the log is false
+";
+
+/// The version of the program, and of the interface that it speaks.
+pub const VERSION: &[u8] = b"ocmd 0.9.0 (Open Cloud Mesh API 1.1)\n";
