@@ -1,4 +1,4 @@
-use Rattle.std.proofs.Common.{◌≡◌, ℕ, ◌∷◌, [], List, Bool, true, false, refl, sym, ap, ◌∙◌, subst, if◌then◌else◌, inl, inr, IsTrue}
+use Rattle.std.proofs.Common.{◌≡◌, ℕ, ◌∷◌, List, Bool, true, false, refl, sym, ap, ◌∙◌, subst, if◌then◌else◌, inl, inr, IsTrue}
 use Rattle.ocm_entry.specs.declared.asks.Ask.{Ask}
 use Rattle.ocm_entry.specs.declared.entries.Entry.{Entry}
 use Rattle.ocm_entry.specs.declared.replies.Reply.{Reply}
@@ -7,8 +7,7 @@ use Rattle.ocm_rules.specs.History.{IsLegal, answer, changes, changes_in, is_fai
 use Rattle.ocm_rules.specs.Messages.{view_of}
 use Rattle.ocm_rules.specs.State.{State, Stands, after, step, state_of, view_in}
 use Rattle.ocm_rules.proofs.Kept.{failure-changes, kept-answered}
-use Rattle.ocm_rules.proofs.States.{answer-state, state_of-kept, view_of-state}
-use Rattle.ocm_plan.specs.Plans.{Plan, Plans}
+use Rattle.ocm_rules.proofs.States.{state_of-kept, view_of-state}
 use Rattle.ocm_core.specs.Standing.{IsAfter}
 
 -- what is read of the history is what is read of the lists

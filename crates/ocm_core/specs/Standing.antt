@@ -17,6 +17,10 @@ pub record IsAfter (st : State) (g : List Entry) : Type 0 where
   pub lists : Stands st g
   pub legal : IsLegal st.host g
 
+-- the lists are those of some legal history
+abbrev pub IsReached : State → Type 0
+IsReached st = (g : List Entry) × IsAfter st g
+
 -- What is kept of the history is counted, and it is known which of it put what stands: where it has fewer than 2^64 - 1 entries,
 -- at which the count stands still.
 pub record IsCountOf (lists : ServerLists) (g : List Entry) : Type 0 where

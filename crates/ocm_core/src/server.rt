@@ -7,7 +7,7 @@ ghost use Rattle.ocm_rules.specs.Messages.{as_sent, out};
 ghost use Rattle.ocm_rules.specs.Numbers.{at_number};
 ghost use Rattle.ocm_rules.specs.Shares.{moment};
 ghost use Rattle.ocm_rules.specs.State.{empty_of, view_in};
-ghost use Rattle.ocm_tables.specs.Changes.{HasRoom, changed, is_kept};
+ghost use Rattle.ocm_tables.specs.Changes.{HasNumbers, HasRoom, changed, is_kept};
 ghost use Rattle.ocm_plan.specs.Plans.{Plans};
 ghost use Rattle.ocm_core.specs.Standing.{IsAfter, IsNumbered, IsPlanned, body_of as bytes_of, body_with, standing_body};
 
@@ -24,6 +24,7 @@ use std::marker::Model;
 
 /// The state of one server after its history. Contracts see the lists that the history comes to, for
 /// how many more rows there is room, how many of its entries are kept, and which of these put what stands.
+/// The lists are always those of some legal history, so its messages have numbers.
 #[derive(Drop)]
 pub struct Core {
     tables: Tables,
@@ -31,10 +32,13 @@ pub struct Core {
 
 impl Model for Core {
     ghost use Rattle.ocm_tables.specs.Tables.{ServerLists};
+    ghost use Rattle.ocm_core.specs.Standing.{IsReached};
 
     ghost Value = { ServerLists };
 
     ghost view = { λ c. c.tables };
+
+    ghost invariant = { λ c. IsReached c.tables.state };
 }
 
 impl Core {
@@ -80,6 +84,7 @@ impl Core {
         ensures reply { IfOk result (λ plan. (g : List Entry) → IsAfter self.now.state g → plan.reply ≡ answer self.now.state.host g ask.now) }
         ensures changes { IfOk result (λ plan. (g : List Entry) → IsAfter self.now.state g
             → is_kept plan.change ≡ changes self.now.state.host (kept self.now.state.host g) (record { ask = ask.now; reply = plan.reply })) }
+        ensures numbers { IfOk result (λ plan. HasNumbers self.now.state plan.sent) }
     {
         let planned = plan(&self.tables, ask)?;
         Ok(planned)

@@ -1,4 +1,4 @@
-use Rattle.std.proofs.Common.{◌≡◌, ℕ, ◌+◌, ◌<◌, ◌≤◌, nat_lt, List, [], length, Bool, true, false, refl, sym, ap, ◌∙◌, arith, append-nil, if◌then◌else◌}
+use Rattle.std.proofs.Common.{◌≡◌, ℕ, ◌+◌, ◌<◌, nat_lt, List, [], Bool, true, false, refl, sym, ap, ◌∙◌, arith, append-nil, if◌then◌else◌}
 use Rattle.std.proofs.lemmas.Bool.{ltb-false}
 use Rattle.ocm_entry.specs.declared.asks.Ask.{Ask}
 use Rattle.ocm_entry.specs.declared.refusals.Why.{Why}
@@ -11,7 +11,7 @@ use Rattle.ocm_rules.specs.History.{changes_in}
 use Rattle.ocm_rules.specs.State.{State, step, view_in}
 use Rattle.ocm_tables.specs.declared.changes.Change.{Change}
 use Rattle.ocm_tables.specs.declared.changes.Change.TheVariants as changes
-use Rattle.ocm_tables.specs.Changes.{Fits, HasNumbers, changed, file_act, is_kept, with_sent}
+use Rattle.ocm_tables.specs.Changes.{Fits, changed, file_act, is_kept, with_sent}
 use Rattle.ocm_rules_steps.proofs.Refusals.{refused-entry}
 use Rattle.ocm_plan.specs.Plans.{Plans, act_in}
 
@@ -23,34 +23,32 @@ none-changed : (st : State) (ask : Ask) (reply : Reply) (b : Bool) → b ≡ fal
 none-changed st ask reply b e = rw e refl
 
 -- the plan of a reply that changes nothing
-pub Plans-only : (st : State) (ask : Ask) (reply : Reply) → reply ≡ reply_in (view_in st) ask → changes_in (view_in st) ask reply ≡ false → length st.sent ≤ 1048576
+pub Plans-only : (st : State) (ask : Ask) (reply : Reply) → reply ≡ reply_in (view_in st) ask → changes_in (view_in st) ask reply ≡ false
     → Plans st ask (record { reply = reply; change = changes.Nothing; sent = [] })
-Plans-only st ask reply answered nothing few = record {
+Plans-only st ask reply answered nothing = record {
   reply = answered;
   change = none-sent st ∙ sym (none-changed st ask reply (changes_in (view_in st) ask reply) nothing);
   kept = sym nothing;
   fits = tt;
-  numbers = omega (arith, few);
   files = λ kept. absurd (let never = kept in cc);
 }
 
 -- the plan of a refusal
-pub Plans-refused : (st : State) (ask : Ask) (why : Why) → Refused why ≡ reply_in (view_in st) ask → length st.sent ≤ 1048576 → Plans st ask (record { reply = Refused why; change = changes.Nothing; sent = [] })
-Plans-refused st ask why answered few = Plans-only st ask (Refused why) answered (refused-entry (view_in st) ask why) few
+pub Plans-refused : (st : State) (ask : Ask) (why : Why) → Refused why ≡ reply_in (view_in st) ask → Plans st ask (record { reply = Refused why; change = changes.Nothing; sent = [] })
+Plans-refused st ask why answered = Plans-only st ask (Refused why) answered (refused-entry (view_in st) ask why)
 
 made-changed : (st : State) (ask : Ask) (reply : Reply) (b : Bool) → b ≡ true → step st ask reply ≡ (if b then step st ask reply else st)
 made-changed st ask reply b e = rw e refl
 
 -- the plan of a reply that makes a change
 pub Plans-made : (st : State) (ask : Ask) (reply : Reply) (change : Change) (messages : List Message) → reply ≡ reply_in (view_in st) ask → changes_in (view_in st) ask reply ≡ true → is_kept change ≡ true
-    → changed st change messages ≡ step st ask reply → Fits st change → file_act change ≡ act_in (view_in st) ask → HasNumbers st messages
+    → changed st change messages ≡ step st ask reply → Fits st change → file_act change ≡ act_in (view_in st) ask
     → Plans st ask (record { reply = reply; change = change; sent = messages })
-Plans-made st ask reply change messages answered changing kept makes fits acts numbers = record {
+Plans-made st ask reply change messages answered changing kept makes fits acts = record {
   reply = answered;
   change = makes ∙ made-changed st ask reply (changes_in (view_in st) ask reply) changing;
   kept = kept ∙ sym changing;
   fits = fits;
-  numbers = numbers;
   files = λ _. acts;
 }
 

@@ -9,7 +9,7 @@ use Rattle.ocm_rules.specs.Holders.{root_among}
 use Rattle.ocm_rules.specs.Views.{View}
 use Rattle.ocm_rules.specs.State.{State, after, view_in}
 use Rattle.ocm_tables.specs.declared.changes.Change.{Change}
-use Rattle.ocm_tables.specs.Changes.{Fits, HasNumbers, changed, file_act, is_kept}
+use Rattle.ocm_tables.specs.Changes.{Fits, changed, file_act, is_kept}
 
 -- a reply, what it changes, and the messages that are sent
 pub record Plan : Type 0 where
@@ -27,6 +27,5 @@ pub record Plans (st : State) (ask : Ask) (plan : Plan) : Type 0 where
   pub change : changed st plan.change plan.sent ≡ after st ask plan.reply
   pub kept : is_kept plan.change ≡ changes_in (view_in st) ask plan.reply
   pub fits : Fits st plan.change
-  pub numbers : HasNumbers st plan.sent
   -- it does to files what the rules say: so the numbers of those that put what stands are those of the history
   pub files : is_kept plan.change ≡ true → file_act plan.change ≡ act_in (view_in st) ask

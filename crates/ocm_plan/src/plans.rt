@@ -3,7 +3,7 @@ ghost use Rattle.ocm_entry.specs.declared.asks.Ask.{Ask};
 ghost use Rattle.ocm_rules.specs.Answers.{reply_in};
 ghost use Rattle.ocm_rules.specs.History.{changes_in};
 ghost use Rattle.ocm_rules.specs.State.{step, view_in};
-ghost use Rattle.ocm_tables.specs.Changes.{Fits, HasNumbers, changed, file_act, is_kept};
+ghost use Rattle.ocm_tables.specs.Changes.{Fits, changed, file_act, is_kept};
 ghost use Rattle.ocm_plan.specs.Plans.{Plans, act_in};
 
 use ocm_base::List;
@@ -33,7 +33,6 @@ impl Planned {
     /// A reply with what it changes and sends. It is the plan for an ask where the rules give this reply
     /// to it, and the reply changes the lists in this way.
     pub fn new(tables: &Tables, reply: Reply, change: Change, sent: List<Message>) -> Planned
-        requires { HasNumbers tables.now.state sent }
         ensures plan { result ≡ record { reply = reply; change = change; sent = sent } }
         ensures plans { (ask : Ask) → reply ≡ reply_in (view_in tables.now.state) ask → changes_in (view_in tables.now.state) ask reply ≡ true → is_kept change ≡ true
             → changed tables.now.state change sent ≡ step tables.now.state ask reply → Fits tables.now.state change → file_act change ≡ act_in (view_in tables.now.state) ask → Plans tables.now.state ask result }
@@ -51,7 +50,6 @@ impl Planned {
         ensures plans { (ask : Ask) → reply ≡ reply_in (view_in tables.now.state) ask → changes_in (view_in tables.now.state) ask reply ≡ true → is_kept change ≡ true
             → changed tables.now.state change [] ≡ step tables.now.state ask reply → Fits tables.now.state change → file_act change ≡ act_in (view_in tables.now.state) ask → Plans tables.now.state ask result }
     {
-        let _messages = tables.message_count();
         Planned {
             reply,
             change,
@@ -64,7 +62,6 @@ impl Planned {
         ensures plan { result ≡ record { reply = reply; change = Change.Nothing; sent = [] } }
         ensures plans { (ask : Ask) → reply ≡ reply_in (view_in tables.now.state) ask → changes_in (view_in tables.now.state) ask reply ≡ false → Plans tables.now.state ask result }
     {
-        let _messages = tables.message_count();
         Planned {
             reply,
             change: Change::Nothing,

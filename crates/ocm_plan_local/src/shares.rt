@@ -9,7 +9,6 @@ ghost use Rattle.ocm_rules.specs.Answers.{is_full_of_changes};
 ghost use Rattle.ocm_rules.specs.Numbers.{same_text};
 ghost use Rattle.ocm_rules.specs.State.{view_in};
 ghost use Rattle.ocm_rules.specs.Users.{user_of_key};
-ghost use Rattle.ocm_tables.specs.Changes.{HasNumbers};
 ghost use Rattle.ocm_plan.specs.Plans.{Plans};
 ghost use Rattle.ocm_plan_local.specs.OwnRows.{IsLiveShare};
 ghost use Rattle.ocm_plan_local.specs.Told.{new_perms};
@@ -20,7 +19,7 @@ use ocm_chain::{Change as Changed, PlannedShare, plan_share};
 use ocm_entry::{AddressField, Reply, Share, Why};
 use ocm_letters::{NewPerms, changed_all, offered, own_share};
 use ocm_path::Path;
-use ocm_plan::{Planned, is_full, numbered, one_message, told_of_ends};
+use ocm_plan::{Planned, is_full, one_message, told_of_ends};
 use ocm_rules::Message;
 use ocm_tables::{Change, Tables};
 use ocm_types::{Address, Fresh, Name, Perms, Secret, Which};
@@ -122,14 +121,12 @@ fn are_too_many(count: u32, more: usize) -> bool
 /// The messages that tell the guests of shares what they may do from now on, by one limit more.
 fn told_of_changes(tables: &Tables, told: &List<Changed>) -> Result<List<Message>, NoMemory>
     requires { tables.now.state.limits < 4294967295 }
-    ensures sent { IfOk result (λ sent. sent ≡ changed_to_guests (view_in tables.now.state).shares (tables.now.state.limits + 1) (map new_perms told.now)) }
-    ensures numbers { IfOk result (λ sent. HasNumbers tables.now.state sent) }
+    ensures { IfOk result (λ sent. sent ≡ changed_to_guests (view_in tables.now.state).shares (tables.now.state.limits + 1) (map new_perms told.now)) }
 {
     let alloc = tables.allocator();
     let told = all_new_perms(alloc, told.as_slice())?;
     let serial = tables.limits() + 1;
-    let sent = changed_all(alloc, tables, serial, &told)?;
-    numbered(tables, sent)
+    changed_all(alloc, tables, serial, &told)
 }
 
 /// What the guest of a share may do from now on.
@@ -206,7 +203,6 @@ fn plan_offered(
     requires { length tables.now.state.shares < 65536 }
     ensures share { IfOk result (λ made. made.0 ≡ share) }
     ensures sent { IfOk result (λ made. made.1 ≡ offered_from tables.now.state.host owner.now (length tables.now.state.shares + 1) share ∷ []) }
-    ensures numbers { IfOk result (λ made. HasNumbers tables.now.state made.1) }
 {
     let id = tables.share_count() + 1;
     let offer = offered(tables.allocator(), tables.host(), owner, id, &share)?;

@@ -15,7 +15,6 @@ ghost use Rattle.ocm_rules.specs.Shares.{is_used, named};
 ghost use Rattle.ocm_rules.specs.State.{view_in};
 ghost use Rattle.ocm_rules.specs.Views.{effective_in};
 ghost use Rattle.ocm_letters.specs.Letters.{offered_from};
-ghost use Rattle.ocm_tables.specs.Changes.{HasNumbers};
 ghost use Rattle.ocm_plan.specs.Plans.{Plans};
 
 use crate::reads::owner_of;
@@ -207,7 +206,6 @@ fn offered_share(
     requires { length tables.now.state.shares < 65536 }
     ensures share { IfOk result (λ made. made.0 ≡ share) }
     ensures sent { IfOk result (λ made. made.1 ≡ offered_from tables.now.state.host owner.now (length tables.now.state.shares + 1) share ∷ []) }
-    ensures numbers { IfOk result (λ made. HasNumbers tables.now.state made.1) }
 {
     let id = tables.share_count() + 1;
     let offer = offered(tables.allocator(), tables.host(), owner, id, &share)?;

@@ -36,5 +36,5 @@ returns c =
     c.new.ensures.plans _
     (answered st c.args.key.now (commands.Accept c.args.number) (Some c.args.user) Done c.requires (phase-done (record_of_user v c.args.user c.args.number) (is_pending (v.phase c.args.number)) c.in-Some.received.now.offer own.owned right))
     refl refl
-    (accept-makes st c.args.key.now c.args.number Done c.in-Some.received.now.offer c.in_ok-message.message c.in_ok-sent.sent own.found c.in_ok-message.ensures c.in_ok-sent.ensures.sent)
+    (accept-makes st c.args.key.now c.args.number Done c.in-Some.received.now.offer c.in_ok-message.message c.in_ok-sent.sent own.found c.in_ok-message.ensures c.in_ok-sent.ensures)
     own.there refl

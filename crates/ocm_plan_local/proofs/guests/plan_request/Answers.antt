@@ -30,5 +30,5 @@ returns c =
     ∙ ap (λ n. Number (n + 1)) (length_same ∙ sym c.request_count-r.ensures)))
     refl refl
     (reshare-makes st c.args.key.now c.args.number c.args.with.now c.in_ok-copy.field-0 c.args.perms (Number (c.request_count-r.result + 1)) c.args.received.now.offer c.request_count-r.result c.in_ok-message.message c.in_ok-sent.sent
-    own.found c.in_ok-copy.ensures c.request_count-r.ensures c.in_ok-message.ensures c.in_ok-sent.ensures.sent)
+    own.found c.in_ok-copy.ensures c.request_count-r.ensures c.in_ok-message.ensures c.in_ok-sent.ensures)
     (record { few = c.requires.few; record_ = own.there }) refl

@@ -35,5 +35,5 @@ returns c =
     (answered st c.args.key.now (commands.Undo c.args.request) (Some c.args.user) Done c.requires.user
     (phase-done (request_of_user v c.args.user c.args.request) (is_some (child_of (v.state c.args.request))) (asked_in c.args.row.now) own.owned right))
     refl refl
-    (undo-makes st c.args.key.now c.args.user c.args.request Done c.args.row.now c.args.received.now c.in-Some.child.now c.in_ok-message.message c.in_ok-sent.sent own some c.in_ok-message.ensures c.in_ok-sent.ensures.sent)
+    (undo-makes st c.args.key.now c.args.user c.args.request Done c.args.row.now c.args.received.now c.in-Some.child.now c.in_ok-message.message c.in_ok-sent.sent own some c.in_ok-message.ensures c.in_ok-sent.ensures)
     own.there refl

@@ -47,5 +47,5 @@ returns c =
     (answered st c.args.key.now (commands.Limit c.args.id c.args.perms) (Some c.args.user) Done c.requires.user
     (limit-done (share_of_owner v c.args.user c.args.id) (is_live_in v c.args.id) c.args.perms (is_full_of_changes v (length (told_by_limit v c.args.id c.args.perms))) c.args.share.now own.owned own.live within not_full))
     refl refl
-    (limit-makes st c.args.key.now c.args.id c.args.perms Done c.in_ok-sent.sent (limit-sent st c.args.id c.args.perms c.in_ok-told.told c.in_ok-sent.sent c.in_ok-told.ensures c.in_ok-sent.ensures.sent))
+    (limit-makes st c.args.key.now c.args.id c.args.perms Done c.in_ok-sent.sent (limit-sent st c.args.id c.args.perms c.in_ok-told.told c.in_ok-sent.sent c.in_ok-told.ensures c.in_ok-sent.ensures))
     (own.there, limits-left (nat_lt 655360 (change_count v.messages + length (told_by_limit v c.args.id c.args.perms))) st.limits not_full) refl

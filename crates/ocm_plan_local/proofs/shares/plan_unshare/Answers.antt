@@ -15,7 +15,7 @@ returns-in_ok-sent-in-Ok c =
     c.new.ensures.plans _
     (answered st c.args.key.now (commands.Unshare c.args.id) (Some c.args.user) Done c.requires (end-done (share_of_owner (view_in st) c.args.user c.args.id) (is_live_in (view_in st) c.args.id) c.in-Ok._share.now own.owned own.live))
     refl refl
-    (unshare-makes st c.args.key.now c.args.id Done c.in_ok-ids-in-Ok.ids c.in_ok-sent-in-Ok.sent c.in_ok-ids-in-Ok.ensures c.in_ok-sent-in-Ok.ensures.sent)
+    (unshare-makes st c.args.key.now c.args.id Done c.in_ok-ids-in-Ok.ids c.in_ok-sent-in-Ok.sent c.in_ok-ids-in-Ok.ensures c.in_ok-sent-in-Ok.ensures)
     own.there refl
 
 pub returns-in-Err : goal.returns-in-Err

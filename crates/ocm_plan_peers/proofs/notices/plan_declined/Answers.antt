@@ -33,6 +33,6 @@ returns c = λ fresh.
     let v = view_in st in
     let found = shared-some v c.args.id.now c.args.secret.now c.in-Some.number (sym c.in-Some.is ∙ c.share_with.ensures) in
     let live = sym c.is_live.ensures ∙ c.if-not-is_live.false in
-    let sent = c.in_ok-sent.ensures.sent ∙ ap (at_end v) (c.in_ok-others.ensures ∙ ap (without c.in-Some.number) c.in_ok-cut.ensures) in
+    let sent = c.in_ok-sent.ensures ∙ ap (at_end v) (c.in_ok-others.ensures ∙ ap (without c.in-Some.number) c.in_ok-cut.ensures) in
     c.new.ensures.plans _ (declined-by v c.args.id.now c.args.secret.now fresh _ found.1) (live-named v c.args.id.now c.in-Some.number _ found.2 live) refl
     (declined-makes st c.args.id.now c.args.secret.now fresh c.in-Some.number c.in_ok-sent.sent found.2 sent) (share-row st c.in-Some.number (is-there v.shares c.in-Some.number found.0 found.3)) refl

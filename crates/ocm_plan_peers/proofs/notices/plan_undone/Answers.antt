@@ -38,6 +38,6 @@ returns c = λ fresh.
     let v = view_in st in
     let found = named-some v (named c.args.id.now) c.unwrap-number.result (sym c.named_share.ensures ∙ c.unwrap-number.ensures) in
     let live = sym c.is_live.ensures ∙ c.if-not-is_live.false in
-    let sent = c.in_ok-sent.ensures.sent ∙ ap (at_end v) c.in_ok-cut.ensures in
+    let sent = c.in_ok-sent.ensures ∙ ap (at_end v) c.in_ok-cut.ensures in
     c.new.ensures.plans _ (undone-by v c.args.id.now c.args.secret.now fresh _ (sym c.is_child_of.ensures ∙ c.if-not-is_child_of.false)) (live-named v c.args.id.now c.unwrap-number.result _ found.1 live) refl
     (undone-makes st c.args.id.now c.args.secret.now fresh c.unwrap-number.result c.in_ok-sent.sent found.1 sent) (share-row st c.unwrap-number.result (is-there v.shares c.unwrap-number.result found.0 found.2)) refl

@@ -1,7 +1,19 @@
-use Rattle.std.proofs.Common.{◌∙◌, sym, subst, ap}
+use Rattle.ocm_core.specs.Standing.{IsPlanned}
 use Rattle.ocm_core.proofs.Numbers.{numbered-after}
+use Rattle.ocm_core.proofs.Reached.{planned-numbers, reached-after}
 use Rattle.ocm_core.proofs.Standing.{IsAfter-answered}
 use Rattle.ocm_core.proofs.server.Core.apply.Goals as goal
+
+pub apply-requires-clause-numbers : goal.apply-requires-clause-numbers
+apply-requires-clause-numbers c =
+    rw c.into_parts-reply.ensures.sent
+    (planned-numbers c.self.inside.tables.state c.args.planned c.self.invariant (rw c.self.view_is c.requires.planned))
+
+pub invariant_of-self : goal.invariant_of-self
+invariant_of-self c =
+    let planned : IsPlanned c.self.inside.tables.state c.args.planned = rw c.self.view_is c.requires.planned in
+    rw (c.apply.ensures.state, c.into_parts-reply.ensures.change, c.into_parts-reply.ensures.sent)
+    (reached-after c.self.inside.tables.state planned.0 c.args.planned c.self.invariant planned.1)
 
 pub returns-clause-after : goal.returns-clause-after
 returns-clause-after c =
