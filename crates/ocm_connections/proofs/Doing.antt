@@ -1,9 +1,10 @@
 -- One deed after another.
-use Rattle.std.proofs.Common.{◌≡◌, ℕ, ◌+◌, ◌≤◌, ◌++◌, List, [], ◌∷◌, Option, Some, None, sym, refl, ap, subst, ◌∙◌, append_assoc, append-nil, arith}
-use Rattle.std.specs.Prelude.{option_map, map}
+use Rattle.std.proofs.Common.{◌≡◌, ℕ, ◌+◌, ◌≤◌, ◌++◌, List, [], ◌∷◌, Option, Some, None, sym, refl, ap, subst, append-nil, arith}
+use Rattle.std.specs.Prelude.{map}
 use Rattle.std.proofs.lemmas.List.{map-append}
 use Rattle.rand_chacha.specs.ChaCha.{ChaCha}
 use Rattle.ocm_base.specs.Outside.{Appends, Takes}
+use Rattle.ocm_base.proofs.Pieces.{Appends-twice, Takes-twice}
 use Rattle.ocm_entry.specs.declared.entries.Entry.{Entry}
 use Rattle.ocm_turn.specs.declared.view.Call.{Call}
 use Rattle.ocm_turn.specs.Calls.{IsOlderPart, entries}
@@ -17,17 +18,9 @@ pub takes_nothing : (a : Option (List ℕ)) → Takes a a []
 takes_nothing (Some rest) = refl
 takes_nothing None = refl
 
-pub takes_then : (a b c : Option (List ℕ)) (x y : List ℕ) → Takes a b x → Takes b c y → Takes a c (x ++ y)
-takes_then a b (Some rest) x y p q = p ∙ (ap (option_map (λ (r : List ℕ). x ++ r)) q ∙ ap Some (sym (append_assoc x y rest)))
-takes_then a b None x y p q = p ∙ ap (option_map (λ (r : List ℕ). x ++ r)) q
-
 pub appends_nothing : (a : Option (List ℕ)) → Appends a a []
 appends_nothing (Some held) = ap Some (sym (append-nil held))
 appends_nothing None = refl
-
-pub appends_then : (a b c : Option (List ℕ)) (x y : List ℕ) → Appends a b x → Appends b c y → Appends a c (x ++ y)
-appends_then (Some held) b c x y p q = q ∙ (ap (option_map (λ (h : List ℕ). h ++ y)) p ∙ ap Some (append_assoc held x y))
-appends_then None b c x y p q = q ∙ ap (option_map (λ (h : List ℕ). h ++ y)) p
 
 pub draws_then : (g h k : ChaCha) (x y : List (List ℕ)) → Draws g x h → Draws h y k → Draws g (x ++ y) k
 draws_then g h k [] y p q = subst (λ (z : ChaCha). Draws z y k) p q
@@ -61,11 +54,11 @@ module _ {Terms : Type 0} where
 
   pub does_then : (a b c : State Terms) (x y : Deeds) → Does a b x → Does b c y → Does a c (both x y)
   does_then a b c x y p q = record {
-    read = takes_then a.sides.left b.sides.left c.sides.left x.read y.read p.read q.read;
-    written = appends_then a.sides.taken b.sides.taken c.sides.taken x.written y.written p.written q.written;
+    read = Takes-twice a.sides.left b.sides.left c.sides.left x.read y.read p.read q.read;
+    written = Appends-twice a.sides.taken b.sides.taken c.sides.taken x.written y.written p.written q.written;
     read_faults = omega (arith, p.read_faults, q.read_faults);
     write_faults = omega (arith, p.write_faults, q.write_faults);
     drawn = draws_then a.draw b.draw c.draw x.drawn y.drawn p.drawn q.drawn;
-    clocks = appends_then a.clock b.clock c.clock x.clocks y.clocks p.clocks q.clocks;
+    clocks = Appends-twice a.clock b.clock c.clock x.clocks y.clocks p.clocks q.clocks;
     calls = moved_then a.pass b.pass c.pass x.calls y.calls p.calls q.calls;
   }

@@ -40,6 +40,15 @@ pub struct GateSink {
 /// A connection in memory that waits for a gate at one place of what it gives, and sets another.
 pub type GateConn = Pair<GateSource, GateSink>;
 
+impl GateSink {
+    /// The bytes that it took.
+    pub fn bytes(&self) -> &[u8]
+        ensures { Some result.now ≡ ⟦<GateSink as Sink>⟧.taken self.now }
+    {
+        self.sink.bytes().as_slice()
+    }
+}
+
 /// Waits for the gate, and answers whether it was set.
 fn waited(gate: &Gate) -> bool {
     for _ in 0..MAX_LOOKS {
@@ -109,14 +118,20 @@ impl Sink for GateSink {
 }
 
 /// The connection with two additions: its source waits before the byte `hold` until `wait` is set, and fails after
-/// 100,000,000 looks; and `set` is set when its first byte was given or written, as `event` says.
+/// 100,000,000 looks; and `set` is set when its first byte was given or written, as `event` says. The faults of its
+/// source are counted from 0.
 pub fn gate_conn(
     conn: MemConn,
     hold: usize,
     wait: Arc<Gate, Global>,
     event: GateEvent,
     set: Arc<Gate, Global>,
-) -> GateConn {
+) -> GateConn
+    ensures left { ⟦<GateSource as Source>⟧.left result.source ≡ ⟦<MemSource as Source>⟧.left conn.source }
+    ensures taken { ⟦<GateSink as Sink>⟧.taken result.sink ≡ ⟦<MemSink as Sink>⟧.taken conn.sink }
+    ensures read_faults { ⟦<GateSource as Source>⟧.faults result.source ≡ 0 }
+    ensures write_faults { ⟦<GateSink as Sink>⟧.faults result.sink ≡ ⟦<MemSink as Sink>⟧.faults conn.sink }
+{
     let (given, written) = match event {
         GateEvent::FirstGiven => (Some(set), None),
         GateEvent::FirstWritten => (None, Some(set)),

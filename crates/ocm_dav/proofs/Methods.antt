@@ -1,14 +1,7 @@
 -- A method that has no name of those for files does nothing with them.
-use Rattle.std.proofs.Common.{◌≡◌, ℕ, List, Bool, true, false, None, refl, codes, bytes_eq}
-use Rattle.std.proofs.lemmas.Slice.Eq.{bytes_eq-Decides}
+use Rattle.std.proofs.Common.{◌≡◌, ℕ, List, None, refl, codes}
+use Rattle.ocm_records.proofs.Words.{other_word}
 use Rattle.ocm_dav.specs.Verbs.{verb_of}
-
-differ : (s w : List ℕ) (b : Bool) → bytes_eq s w ≡ b → (s ≡ w → ⊥) → b ≡ false
-differ s w true e other = absurd (other ((bytes_eq-Decides s w).0 e))
-differ s w false e other = refl
-
-other_word : (s w : List ℕ) → (s ≡ w → ⊥) → bytes_eq s w ≡ false
-other_word s w other = differ s w _ refl other
 
 pub no_verb : (s : List ℕ)
     → (s ≡ codes "GET" → ⊥)

@@ -43,7 +43,8 @@ fn read_text(alloc: Global, text: &str, host: &Host) -> Result<Path, Destination
     }
 }
 
-fn begins_with_slash(text: &str) -> bool
+/// Whether a request's target, or the value of a `Destination`, begins with `/`.
+pub fn begins_with_slash(text: &str) -> bool
     ensures { result ≡ destinations.begins_with_slash text.now }
 {
     match text.as_bytes() {
@@ -52,8 +53,8 @@ fn begins_with_slash(text: &str) -> bool
     }
 }
 
-/// What stands before the first `?`.
-fn before_query(text: &str) -> &str
+/// What stands before the first `?`; all, where there is none.
+pub fn before_query(text: &str) -> &str
     ensures { result.now ≡ destinations.before_query text.now }
 {
     match text.split_once('?') {
@@ -78,7 +79,7 @@ fn read_address(alloc: Global, text: &str, host: &Host) -> Result<Path, Destinat
 }
 
 /// What follows `/dav`, where the path is `/dav` or begins with `/dav/`.
-fn below_dav(path: &str) -> Option<&str>
+pub fn below_dav(path: &str) -> Option<&str>
     ensures { option_copied result ≡ destinations.below_dav path.now }
 {
     let rest = path.strip_prefix("/dav")?;

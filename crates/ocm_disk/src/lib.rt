@@ -4,6 +4,7 @@
 mod crashes;
 mod disk;
 mod files;
+mod gate_disks;
 mod images;
 mod marks;
 mod memory;
@@ -13,5 +14,6 @@ mod shelf;
 pub use crashes::Crash;
 pub use disk::Disk;
 pub use files::FileDisk;
+pub use gate_disks::GateDisk;
 pub use memory::MemDisk;
 pub use shelf::{Place, Shelf, ShelfFault};

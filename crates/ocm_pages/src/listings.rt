@@ -7,10 +7,11 @@ ghost use Rattle.serde_json.specs.View.{view, members_view};
 ghost use Rattle.serde_json.specs.Written.{compact_text};
 ghost use Rattle.ocm_pages.specs.Listings as listings;
 
-use crate::values::{address_value, perms_if, perms_value, push_if, put_if, put_text, text_of};
+use crate::values::push_if;
 use ocm_base::{Bytes, NoMemory};
 use ocm_entry::Line;
 use ocm_path::Path;
+use ocm_records::{address_value, bytes_of, perms_if, perms_value, put_if, put_text};
 use ocm_types::{Address, Offer, Perms, Phase, RequestPhase};
 use serde_json::{Map, Value, put};
 use std::alloc::Global;
@@ -138,7 +139,7 @@ fn request_value(
         ≡ listings.request_data number received with.now perms.now state.now) }
 {
     let mut members = later_members(alloc, received, with, state)?;
-    let perms = perms_if(alloc, perms)?;
+    let perms = perms_if(alloc, *perms)?;
     put_if(&mut members, alloc, "permissions", perms)?;
     put(&mut members, alloc, "number", Value::from(number))?;
     let child = child_value(alloc, state)?;
@@ -272,6 +273,6 @@ pub fn listing_text(alloc: Global, lines: &[Line]) -> Result<Bytes, NoMemory>
     ensures { IfOk result (λ text. text ≡ compact_text (listings.listing_data lines.now)) }
 {
     let value = listing_value(alloc, lines)?;
-    let text = text_of(alloc, &value)?;
+    let text = bytes_of(alloc, &value)?;
     Ok(text)
 }

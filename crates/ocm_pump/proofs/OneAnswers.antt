@@ -15,7 +15,7 @@ use Rattle.ocm_pump.specs.Replies.{most_body, reply_in, Reads, whole, wanting, S
 use Rattle.ocm_pump.specs.Delivery.{first_place, second_place, document_request, site_in, Asks, found_at_last, Discovers, at_first, stopped, at_second, post_request, answer_in, Posts, Delivers, undiscovered, posted}
 
 -- an answer other than want of memory
-abbrev Known : {A : Type 0} → Result A PumpFault → Type 0
+abbrev pub Known : {A : Type 0} → Result A PumpFault → Type 0
 Known result = result ≡ Err NoMemory → ⊥
 
 -- ---- one exchange
@@ -35,7 +35,8 @@ same_bytes : (host request : List ℕ) (x y : Option (List ℕ)) (added : List E
 unfolding last_reply
 same_bytes host request x y added e f = ap last_reply (sym e ∙ f)
 
-sends_one : (host request : List ℕ) (added : List Exchange) (a b : Result Message PumpFault) → Sends host request added a → Sends host request added b → Known a → Known b → a ≡ b
+-- what one exchange gave is fixed by it
+pub sends_one : (host request : List ℕ) (added : List Exchange) (a b : Result Message PumpFault) → Sends host request added a → Sends host request added b → Known a → Known b → a ≡ b
 sends_one host request added a b (answered x e r) (answered y f s) ka kb =
     let same : y ≡ x = let o = same_bytes host request (Some x) (Some y) added e f in cc in
     reads_one x a b r (subst (λ (z : List ℕ). Reads z b) same s) ka kb
@@ -49,10 +50,10 @@ sends_one host request added a b (answered x e r) (short m f) ka kb = absurd (kb
 sends_one host request added a b (failed e r) (short m f) ka kb = absurd (kb f)
 
 -- one exchange was added
-abbrev IsOne : List Exchange → Type 0
+abbrev pub IsOne : List Exchange → Type 0
 IsOne added = (x : Exchange) × (added ≡ x ∷ [])
 
-sends_single : (host request : List ℕ) (added : List Exchange) (a : Result Message PumpFault) → Sends host request added a → Known a → IsOne added
+pub sends_single : (host request : List ℕ) (added : List Exchange) (a : Result Message PumpFault) → Sends host request added a → Known a → IsOne added
 sends_single host request added a (answered x e r) ka = (record { host = host; request = request; reply = Some x }, e)
 sends_single host request added a (failed e r) ka = (record { host = host; request = request; reply = None }, e)
 sends_single host request added a (short m e) ka = absurd (ka e)
@@ -128,10 +129,9 @@ shapes_one host added a b (two x y f e asked later known r) (two v w g h asked' 
 shapes_one host added a b (one x f e asked other known r) (two v w g h asked' later' known' s) = absurd cc
 shapes_one host added a b (two x y f e asked later known r) (one v g h asked' other' known' s) = absurd cc
 
-discovers_one : (host : List ℕ) (added : List Exchange) (a b : Result Site PumpFault) → Discovers host added a → Discovers host added b → Known a → Known b → a ≡ b
+pub discovers_one : (host : List ℕ) (added : List Exchange) (a b : Result Site PumpFault) → Discovers host added a → Discovers host added b → Known a → Known b → a ≡ b
 discovers_one host added a b x y ka kb = shapes_one host added a b (shape host added a x ka) (shape host added b y kb)
 
--- what ends with an exchange has no site before it
 apart : (host : List ℕ) (added before : List Exchange) (z : Exchange) (fault : PumpFault) (site : Site) → added ≡ z ∷ before
     → Shape host added (Err fault) → Shape host before (Ok site) → ⊥
 apart host added before z fault site e (one x f h asked other known r) (one v g i asked' other' known' s) = cc
@@ -141,18 +141,23 @@ apart host added before z fault site e (two x y f h asked later known r) (one v 
     let same : v ≡ x = cc in
     other' (asks_one host first_place (x ∷ []) g (Ok None) (subst (λ (u : Exchange). Asks host first_place (u ∷ []) g) same asked') asked known' (λ n. cc))
 
+-- a search that fails after one more exchange found no site before it
+pub discovers_apart : (host : List ℕ) (added before : List Exchange) (z : Exchange) (fault : PumpFault) (site : Site) → added ≡ z ∷ before
+    → Discovers host added (Err fault) → (fault ≡ NoMemory → ⊥) → Discovers host before (Ok site) → ⊥
+discovers_apart host added before z fault site e x k y =
+    apart host added before z fault site e (shape host added (Err fault) x (λ g. k (let h : fault ≡ NoMemory = cc in h))) (shape host before (Ok site) y (λ n. cc))
+
 -- ---- the delivery
 
-ends : (before after added : List Exchange) (z : Exchange) → after ≡ z ∷ [] → added ≡ after ++ before → added ≡ z ∷ before
+pub ends : (before after added : List Exchange) (z : Exchange) → after ≡ z ∷ [] → added ≡ after ++ before → added ≡ z ∷ before
 ends before after added z s e = e ∙ ap (λ (l : List Exchange). l ++ before) s
 
 delivers_mixed : (message : Numbered) (added : List Exchange) (a b : Result Answered PumpFault) (fault : PumpFault) (before after : List Exchange) (site : Site)
     → Discovers message.to added (Err fault) → a ≡ Err fault → Discovers message.to before (Ok site) → Posts site message.letter after b → added ≡ after ++ before
     → Known a → Known b → ⊥
 delivers_mixed message added a b fault before after site x e y p f ka kb =
-    let known : Known {A = Site} (Err fault) = λ g. ka (let h : fault ≡ NoMemory = cc in e ∙ ap (λ (q : PumpFault). Err q) h) in
     let s = posts_single site message.letter after b p kb in
-    apart message.to added before s.0 fault site (ends before after added s.0 s.1 f) (shape message.to added (Err fault) x known) (shape message.to before (Ok site) y (λ n. cc))
+    discovers_apart message.to added before s.0 fault site (ends before after added s.0 s.1 f) x (λ h. ka (e ∙ ap (λ (q : PumpFault). Err q) h)) y
 
 delivers_both : (message : Numbered) (added : List Exchange) (a b : Result Answered PumpFault) (before after before' after' : List Exchange) (site site' : Site)
     → Discovers message.to before (Ok site) → Posts site message.letter after a → added ≡ after ++ before

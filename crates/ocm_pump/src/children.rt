@@ -1,27 +1,14 @@
 ghost use Rattle.std.specs.Prelude.{◌≡◌, IfOk};
-ghost use Rattle.ocm_json.specs.Json.{object_of};
-ghost use Rattle.ocm_json.specs.Seen.{data_at, data_in};
+ghost use Rattle.ocm_json.specs.Seen.{data_at};
 ghost use Rattle.ocm_records.specs.Kinds as kinds;
-ghost use Rattle.ocm_records.specs.Rows.{Gives, opened, record_of};
+ghost use Rattle.ocm_records.specs.Rows.{Gives, record_of};
 ghost use Rattle.ocm_pump.specs.Delivery as delivery;
 
 use ocm_base::Text;
-use ocm_json::{FieldFault, Fields, FieldsRef, JsonFault};
-use ocm_records::{Field, RecordFault};
+use ocm_json::{FieldFault, FieldsRef};
+use ocm_records::{Field, RecordFault, fields_of};
 use ocm_types::{ProviderId, TextFault};
 use std::alloc::Global;
-
-/// The fields of the object that the bytes are.
-fn fields_of(alloc: Global, bytes: &[u8]) -> Result<Fields, RecordFault>
-    ensures { Gives data_in result (opened (object_of bytes.now)) }
-{
-    match Fields::of(alloc, bytes) {
-        Ok(fields) => Ok(fields),
-        Err(JsonFault::NotJson) => Err(RecordFault::NotJson),
-        Err(JsonFault::NotObject) => Err(RecordFault::NotObject),
-        Err(JsonFault::NoMemory) => Err(RecordFault::NoMemory),
-    }
-}
 
 /// The decimal of the number that the field is.
 fn decimal_at(alloc: Global, fields: FieldsRef<'_>) -> Result<Option<Text>, RecordFault>

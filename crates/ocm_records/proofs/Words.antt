@@ -9,7 +9,8 @@ differ : (s w : List ℕ) (b : Bool) → bytes_eq s w ≡ b → (s ≡ w → ⊥
 differ s w true e other = absurd (other ((bytes_eq-Decides s w).0 e))
 differ s w false e other = refl
 
-other_word : (s w : List ℕ) → (s ≡ w → ⊥) → bytes_eq s w ≡ false
+-- a word that is not another does not compare equal
+pub other_word : (s w : List ℕ) → (s ≡ w → ⊥) → bytes_eq s w ≡ false
 other_word s w other = differ s w _ refl other
 
 pub no_event : (s : List ℕ)

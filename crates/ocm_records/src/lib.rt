@@ -1,5 +1,6 @@
 //! The records of Open Cloud Mesh API 1.1 and of the local interface, read from JSON and written as
-//! JSON.
+//! JSON; and, for others that read or write parts of records, the object that a record is and the JSON
+//! values of what several records have.
 #![tactic(auto)]
 
 mod choices;
@@ -24,4 +25,6 @@ pub use notice_json::write_notice;
 pub use notices::read_notice;
 pub use offer_json::write_offer;
 pub use offers::read_offer;
+pub use opening::fields_of;
 pub use values::{Discovery, ErrorBody, FieldNote, LocalAsk};
+pub use writing::{address_value, bytes_of, perms_if, perms_value, put_if, put_text};
