@@ -125,6 +125,7 @@ fn open<D: Disk>(alloc: Global, disk: &mut D, label: &[u8], area: u64) -> Result
     ensures says { D.tells → IfErr result (IsSaidBy (opening label.now area (D.seen disk.old))) }
     ensures cause { IfErr result (IsCounted (D.count disk.old) (D.count disk.new)) }
     ensures unfailing { FailsWithDisk ⟦<D as Disk>⟧ disk.old disk.new result }
+    ensures stays { D.tells → StaysAsItOpens label.now area (D.seen disk.old) (D.seen disk.new) }
     ensures any_moment { D.tells
         → LeavesOnly D.moment D.left_since disk.old disk.new (λ c. D.may_leave disk.old c ⊎ StaysAsItOpens label.now area (D.seen disk.old) c) }
 {
@@ -157,6 +158,10 @@ impl<D: Disk> Journal<D> {
 
         // A disk on which a journal was made reads as before.
         ensures same { D.tells → blank_of label.now (new_area limit) (D.seen disk) ≡ None → IfOk result (λ loaded. D.seen (disk_of loaded.0) ≡ D.seen disk) }
+
+        // Opened or not, it reads as before, or it was blank and opens to no records.
+        ensures stays_ok { D.tells → IfOk result (λ loaded. StaysAsItOpens label.now (new_area limit) (D.seen disk) (D.seen (disk_of loaded.0))) }
+        ensures stays_err { D.tells → IfErr result (λ failed. StaysAsItOpens label.now (new_area limit) (D.seen disk) (D.seen failed.0)) }
         ensures goes { IfOk result (λ loaded. loaded.0.stopped ≡ false) }
         ensures says { D.tells → IfErr result (λ failed. IsSaidBy (opening label.now (new_area limit) (D.seen disk)) failed.1) }
         ensures cause { IfErr result (λ failed. IsCounted (D.count disk) (D.count failed.0) failed.1) }

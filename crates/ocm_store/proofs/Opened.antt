@@ -30,7 +30,6 @@ use Rattle.ocm_journal.specs.Journals.{StandsFor}
 use Rattle.ocm_journal.specs.Openings.{IsMadeAs, Opens, StaysAsItOpens, opening}
 use Rattle.ocm_journal.specs.Openings as openings
 use Rattle.ocm_journal.specs.Passing as passing
-use Rattle.ocm_journal.proofs.Moving.{weaker}
 use Rattle.ocm_rules.specs.History.{IsLegal}
 use Rattle.ocm_history.specs.declared.faults.ReplayFault.{ReplayFault}
 use Rattle.ocm_history.specs.declared.faults.ReplayFault.TheVariants as replays
@@ -134,7 +133,7 @@ replayed-no_fault refused (Err failed) is = refused-no_fault refused failed.1 is
 
 -- ---- what a store stands for
 
--- all that a crash leaves while a disk is opened opens to what the disk opens to
+-- what stays as a disk opens opens to what the disk opens to
 pub stays-alike : (host : List ℕ) (area : ℕ) (seen bytes : List ℕ) → StaysAsItOpens host area seen bytes → OpensAlike host area seen bytes
 stays-alike host area seen bytes (inl same) = λ k opens. subst (OpensTo host area k) (sym same) opens
 stays-alike host area seen bytes (inr left) = λ k opens. by_opens k opens left.1
@@ -143,6 +142,14 @@ stays-alike host area seen bytes (inr left) = λ k opens. by_opens k opens left.
     by_opens k (inl (own, none)) (inl (is, empty)) = inl (is, none)
     by_opens k (inl (own, none)) (inr (size, form, image)) = inr (size, (form, [], image, ap (λ l. Some l) (sym none)))
     by_opens k (inr (size, (form, records, image, list))) new = absurd (blank_is_none seen host host area size form records left.0 image)
+
+-- what is not loaded for its bytes is not blank, so that they stay
+pub refused-stays : (host : List ℕ) (area : ℕ) (seen bytes : List ℕ) (fault : LoadFault) → StaysAsItOpens host area seen bytes → loading host area seen ≡ Err fault → bytes ≡ seen
+refused-stays host area seen bytes fault (inl same) refused = same
+refused-stays host area seen bytes fault (inr left) refused = absurd (never (sym (opens-loaded host area [] seen (inl (left.0, refl))) ∙ refused))
+  where
+    never : ◌≡◌ {A = Result (List Entry) LoadFault} (Ok []) (Err fault) → ⊥
+    never e = cc
 
 module _ {D : Type 0} (disk : Ghosts D) where
   -- a store whose memory is that of a list, and whose journal opens to it
@@ -196,6 +203,7 @@ pub record IsLoaded {D : Type 0} (disk : Ghosts D) (host : List ℕ) (area : ℕ
   pub holds : disk.tells → StandsFor disk host (contents raw) journal
   pub made : disk.tells → IsMadeAs host area (disk.seen old) (journals.form_of journal) (journals.area_of journal)
   pub same : disk.tells → blank_of host area (disk.seen old) ≡ None → disk.seen (journals.disk_of journal) ≡ disk.seen old
+  pub stays : disk.tells → StaysAsItOpens host area (disk.seen old) (disk.seen (journals.disk_of journal))
   pub moments : disk.tells → LeavesOnly disk.moment disk.left_since old (journals.disk_of journal) (λ c. disk.may_leave old c ⊎ StaysAsItOpens host area (disk.seen old) c)
 
 -- what is known of a store that was made of a journal and its records
@@ -206,11 +214,6 @@ pub record IsReplayed {D : Type 0} (disk : Ghosts D) (host : List ℕ) (journal 
   pub list : List Entry
   pub opens : opened host (journals.form_of journal) (contents raw) ≡ Some list
   pub memory : IsMemoryOf store.history list
-
-pub wider : {D : Type 0} (disk : Ghosts D) (host : List ℕ) (area : ℕ) (old new : D)
-    → LeavesOnly disk.moment disk.left_since old new (λ c. disk.may_leave old c ⊎ StaysAsItOpens host area (disk.seen old) c)
-    → LeavesOnly disk.moment disk.left_since old new (λ c. disk.may_leave old c ⊎ OpensAlike host area (disk.seen old) c)
-wider disk host area old new leaves = weaker disk.moment disk.left_since old new _ _ leaves (λ c left. ⊎_elim (λ was. inl was) (λ now. inr (stays-alike host area (disk.seen old) c now)) left)
 
 pub replayed-all : {D : Type 0} (disk : Ghosts D) (host : List ℕ) (journal : Journal D disk) (raw : List RawRecord) (result : Result (Store D disk) (D × LoadFault))
     → IfOk result (λ store. host_of store ≡ host) → IfOk result (λ store. store.journal ≡ journal)
@@ -263,6 +266,11 @@ module _ {D : Type 0} {disk : Ghosts D} {host : List ℕ} {area : ℕ} {old : D}
   all-kept P here (Ok store) same = subst P (sym same) here
   all-kept P here (Err failed) same = tt
 
+  -- what the journal's disk has, the disk that comes back has
+  pub all-back : (P : D → Type 0) → P (journals.disk_of journal) → (result : Result (Store D disk) (D × LoadFault)) → IfErr result (λ failed. failed.0 ≡ journals.disk_of journal) → IfErr result (λ failed. P failed.0)
+  all-back P here (Ok store) same = tt
+  all-back P here (Err failed) same = subst P (sym same) here
+
   -- its areas have the size that the disk says
   pub of-area : disk.tells → IsOfArea host area (journals.area_of journal) (disk.seen old)
   of-area tells = by_blank (blank_of host area (disk.seen old)) refl
@@ -270,16 +278,3 @@ module _ {D : Type 0} {disk : Ghosts D} {host : List ℕ} {area : ℕ} {old : D}
       by_blank : (o : Option Blank) → blank_of host area (disk.seen old) ≡ o → IsOfArea host area (journals.area_of journal) (disk.seen old)
       by_blank None is = inr (journal.form, contents raw, subst (λ b. IsImage host journal.area journal.form (contents raw) b) (loaded.same tells is) (loaded.holds tells).image)
       by_blank (Some blank) is = inl (let P : Option Blank → Type 0 = λ o. IsSome o in subst P (sym is) refl, (loaded.made tells blank is).1)
-
-  pub moments-ok : disk.tells → (result : Result (Store D disk) (D × LoadFault)) → IfOk result (λ store. store.journal ≡ journal)
-      → IfOk result (λ store. LeavesOnly disk.moment disk.left_since old (disk_of store) (λ c. disk.may_leave old c ⊎ OpensAlike host area (disk.seen old) c))
-  moments-ok tells =
-      all-kept (λ j. LeavesOnly disk.moment disk.left_since old (journals.disk_of j) (λ c. disk.may_leave old c ⊎ OpensAlike host area (disk.seen old) c))
-      (wider disk host area old (journals.disk_of journal) (loaded.moments tells))
-
-  pub moments-err : disk.tells → (result : Result (Store D disk) (D × LoadFault)) → IfErr result (λ failed. failed.0 ≡ journals.disk_of journal)
-      → IfErr result (λ failed. LeavesOnly disk.moment disk.left_since old failed.0 (λ c. disk.may_leave old c ⊎ OpensAlike host area (disk.seen old) c))
-  moments-err tells (Ok store) same = tt
-  moments-err tells (Err failed) same =
-      let P : D → Type 0 = λ d. LeavesOnly disk.moment disk.left_since old d (λ c. disk.may_leave old c ⊎ OpensAlike host area (disk.seen old) c) in
-      subst P (sym same) (wider disk host area old (journals.disk_of journal) (loaded.moments tells))

@@ -1,11 +1,13 @@
 //! What follows from what a store stands for, each law as the contract of a function that does nothing.
-ghost use Rattle.std.specs.Prelude.{◌≡◌, [], ℕ, List, Ok};
+ghost use Rattle.std.specs.Prelude.{◌≡◌, [], ℕ, List, Ok, Err};
 ghost use Rattle.ocm_base.specs.Hex.{AreBytes};
 ghost use Rattle.ocm_entry.specs.declared.entries.Entry.{Entry};
 ghost use Rattle.ocm_image.specs.Layout.{IsImage};
+ghost use Rattle.ocm_journal.specs.Openings.{StaysAsItOpens};
 ghost use Rattle.ocm_rules.specs.History.{IsLegal, kept};
 ghost use Rattle.ocm_law_sessions.specs.Sessions.{IsSession};
-ghost use Rattle.ocm_store.specs.Opening.{IsImageIn, IsOfArea, OpensTo, loading};
+ghost use Rattle.ocm_store.specs.declared.load_faults.LoadFault.{LoadFault};
+ghost use Rattle.ocm_store.specs.Opening.{IsImageIn, IsOfArea, OpensAlike, OpensTo, loading};
 
 /// A disk opens to one list at most.
 pub fn a_disk_opens_to_one_list()
@@ -16,6 +18,12 @@ pub fn a_disk_opens_to_one_list()
 pub fn what_opens_is_loaded()
     ensures loaded { (host : List ℕ) (area : ℕ) (k : List Entry) (bytes : List ℕ) → OpensTo host area k bytes → loading host area bytes ≡ Ok k }
     ensures opens { (host : List ℕ) (area : ℕ) (k : List Entry) (bytes : List ℕ) → AreBytes bytes → loading host area bytes ≡ Ok k → OpensTo host area k bytes }
+{}
+
+/// A disk that stays as it opens opens to all that it did, and one that is not loaded for its bytes has the same bytes.
+pub fn what_stays_opens_alike()
+    ensures alike { (host : List ℕ) (area : ℕ) (seen bytes : List ℕ) → StaysAsItOpens host area seen bytes → OpensAlike host area seen bytes }
+    ensures refused { (host : List ℕ) (area : ℕ) (seen bytes : List ℕ) (fault : LoadFault) → StaysAsItOpens host area seen bytes → loading host area seen ≡ Err fault → bytes ≡ seen }
 {}
 
 /// What a disk opens to is legal, is kept whole, and begins a session.

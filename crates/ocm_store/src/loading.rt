@@ -4,14 +4,14 @@ ghost use Rattle.ocm_disk.specs.Disk.{LeavesOnly};
 ghost use Rattle.ocm_entry.specs.declared.entries.Entry.{Entry};
 ghost use Rattle.ocm_image.specs.Layout.{contents};
 ghost use Rattle.ocm_journal.specs.Journals as journals;
-ghost use Rattle.ocm_journal.specs.Openings.{new_area};
+ghost use Rattle.ocm_journal.specs.Openings.{StaysAsItOpens, new_area};
 ghost use Rattle.ocm_rules.specs.History.{kept};
 ghost use Rattle.ocm_rules.specs.Lean.{count};
 ghost use Rattle.ocm_rules.specs.Messages.{as_sent, out};
 ghost use Rattle.ocm_rules.specs.Numbers.{at_number};
 ghost use Rattle.ocm_rules.specs.Shares.{moment};
 ghost use Rattle.ocm_law_sessions.specs.Readings.{opened, refused_at};
-ghost use Rattle.ocm_store.specs.Opening.{IsCounted, IsNoDiskFault, IsOfArea, IsRefused, IsSaidBy, OpensAlike, OpensTo, loading};
+ghost use Rattle.ocm_store.specs.Opening.{IsCounted, IsNoDiskFault, IsOfArea, IsRefused, IsSaidBy, OpensTo, loading};
 ghost use Rattle.ocm_history.specs.Replays.{IsMemoryOf};
 ghost use Rattle.ocm_store.specs.Stores.{IsLegalUnder, Stands, area_of, disk_of, fault_of, host_of, terms_of};
 
@@ -50,12 +50,16 @@ impl<D: Disk> Store<D> {
         ensures passes { ((n : ℕ) → D.passes disk n) → IfOk result (λ store. (n : ℕ) → D.passes (disk_of store) n) }
         ensures unfailing { ((n : ℕ) → D.passes disk n) → IfErr result (λ failed. IsNoDiskFault failed.1) }
 
-        // A crash at any moment leaves what it might have left before the call or, from the first sync on, what opens to
-        // the same list.
+        // Loaded or not, the disk reads as it did or, where it was blank, opens to no records.
+        ensures same_ok { D.tells → IfOk result (λ store. StaysAsItOpens host (new_area limit) (D.seen disk) (D.seen (disk_of store))) }
+        ensures same_err { D.tells → IfErr result (λ failed. StaysAsItOpens host (new_area limit) (D.seen disk) (D.seen failed.0)) }
+
+        // A crash at any moment leaves what it might have left before the call or, from the first sync on, the same bytes or,
+        // where the disk was blank, what opens to no records. So it opens to the same list.
         ensures moments_ok { D.tells → IfOk result (λ store. LeavesOnly D.moment D.left_since disk (disk_of store)
-            (λ c. D.may_leave disk c ⊎ OpensAlike host (new_area limit) (D.seen disk) c)) }
+            (λ c. D.may_leave disk c ⊎ StaysAsItOpens host (new_area limit) (D.seen disk) c)) }
         ensures moments_err { D.tells → IfErr result (λ failed. LeavesOnly D.moment D.left_since disk failed.0
-            (λ c. D.may_leave disk c ⊎ OpensAlike host (new_area limit) (D.seen disk) c)) }
+            (λ c. D.may_leave disk c ⊎ StaysAsItOpens host (new_area limit) (D.seen disk) c)) }
     {
         match Journal::load(alloc, disk, host.text().as_str().as_bytes(), limit) {
             Ok((journal, records)) => Store::replay(alloc, host, journal, &records),

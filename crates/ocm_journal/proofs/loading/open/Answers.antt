@@ -19,6 +19,21 @@ returns-clause-any_moment g c = λ tells.
     let last = weaker d.moment d.left_since c.sync.new.self c.open_synced.new.disk (StaysAsItOpens c.args.label.now c.args.area (d.seen c.sync.new.self)) P (c.open_synced.ensures.any_moment tells only_mid) (λ x stays. inr (subst (λ (b : List ℕ). StaysAsItOpens c.args.label.now c.args.area b x) c.sync.ensures.seen stays)) in
     joined d.moment d.left_since c.args.disk.now c.sync.new.self c.open_synced.new.disk P first last
 
+pub returns-then-is_err-clause-stays : goal.returns-then-is_err-clause-stays
+returns-then-is_err-clause-stays g c = λ tells. inl c.sync.ensures.seen
+
+-- what it reads now is among what a crash from the sync on might leave
+pub returns-clause-stays : goal.returns-clause-stays
+returns-clause-stays g c = λ tells.
+    let d = g.D.Disk in
+    let good = sym c.is_err.ensures.value ∙ c.if-is_err.false in
+    let durable = on_ok c.sync.result _ good (c.sync.ensures.durable tells) in
+    let only_mid : Only (d.seen c.sync.new.self) (d.may_leave c.sync.new.self) = λ x left. durable x left ∙ sym c.sync.ensures.seen in
+    let leaves = c.open_synced.ensures.any_moment tells only_mid in
+    let now : List ℕ = d.seen c.open_synced.new.disk in
+    let here = g.met.D.Disk.counts_now c.open_synced.new.disk (d.moment c.sync.new.self) now leaves.later (g.met.D.Disk.reads_an_image c.open_synced.new.disk) in
+    subst (λ (b : List ℕ). StaysAsItOpens c.args.label.now c.args.area b now) c.sync.ensures.seen (leaves.each now here)
+
 pub returns-clause-made : goal.returns-clause-made
 returns-clause-made g c = λ tells.
     let made : List ℕ → Type 0 = λ seen. IfOk c.open_synced.result (λ opened. IsMadeAs c.args.label.now c.args.area seen opened.form opened.area) in

@@ -7,7 +7,7 @@ use Rattle.ocm_journal.specs.Openings.{StaysAsItOpens, new_area, opening}
 use Rattle.ocm_journal.specs.Openings as openings
 use Rattle.ocm_law_sessions.specs.Readings.{refused_at}
 use Rattle.ocm_store.specs.Opening.{IsNoDiskFault, IsOfArea, IsSaidBy, loading}
-use Rattle.ocm_store.proofs.Opened.{IsLoaded, IsReplayed, all-kept, all-opened, all-said, host-label, moments-err, moments-ok, of-area, opened-no_fault, replayed-all, replayed-no_fault, said-opening, wider}
+use Rattle.ocm_store.proofs.Opened.{IsLoaded, IsReplayed, all-back, all-kept, all-opened, all-said, host-label, of-area, opened-no_fault, replayed-all, replayed-no_fault, said-opening}
 use Rattle.ocm_store.proofs.stores.Store.load.Given.{Over}
 use Rattle.ocm_store.proofs.stores.Store.load.Goals as goal
 
@@ -21,7 +21,7 @@ loaded : (g : Over) (c : goal.After-drop-records-inside g) → IsLoaded g.D.Disk
 loaded g c =
     let same : c.as_bytes.result.now ≡ c.args.host = c.as_bytes.ensures.value ∙ c.as_str.ensures ∙ c.text.ensures.text in
     subst (λ (label : List ℕ). IsLoaded g.D.Disk label (new_area c.args.limit) c.args.disk c.in-Ok.journal c.in-Ok.records) same
-    (record { reads = c.in-Ok.ensures.reads; holds = c.in-Ok.ensures.stands; made = c.in-Ok.ensures.made; same = c.in-Ok.ensures.same; moments = c.in-Ok.ensures.moments_ok })
+    (record { reads = c.in-Ok.ensures.reads; holds = c.in-Ok.ensures.stands; made = c.in-Ok.ensures.made; same = c.in-Ok.ensures.same; stays = c.in-Ok.ensures.stays_ok; moments = c.in-Ok.ensures.moments_ok })
 
 replayed : (g : Over) (c : goal.After-drop-records-inside g) → IfOk c.replay.result (IsReplayed g.D.Disk c.args.host c.in-Ok.journal c.in-Ok.records)
 replayed g c = replayed-all g.D.Disk c.args.host c.in-Ok.journal c.in-Ok.records c.replay.result c.replay.ensures.host c.replay.ensures.journal c.replay.ensures.memory c.replay.ensures.goes
@@ -44,11 +44,17 @@ returns-in-Ok-clause-passes g c = λ pass. all-kept (loaded g c) (λ j. (n : ℕ
 pub returns-in-Ok-clause-unfailing : goal.returns-in-Ok-clause-unfailing
 returns-in-Ok-clause-unfailing g c = λ pass. replayed-no_fault (refused_at c.args.host (journals.form_of c.in-Ok.journal) c.in-Ok.records) c.replay.result c.replay.ensures.refused
 
+pub returns-in-Ok-clause-same_ok : goal.returns-in-Ok-clause-same_ok
+returns-in-Ok-clause-same_ok g c = λ tells. all-kept (loaded g c) (λ j. StaysAsItOpens c.args.host (new_area c.args.limit) (g.D.Disk.seen c.args.disk) (g.D.Disk.seen (journals.disk_of j))) ((loaded g c).stays tells) c.replay.result c.replay.ensures.journal
+
+pub returns-in-Ok-clause-same_err : goal.returns-in-Ok-clause-same_err
+returns-in-Ok-clause-same_err g c = λ tells. all-back (loaded g c) (λ back. StaysAsItOpens c.args.host (new_area c.args.limit) (g.D.Disk.seen c.args.disk) (g.D.Disk.seen back)) ((loaded g c).stays tells) c.replay.result c.replay.ensures.disk
+
 pub returns-in-Ok-clause-moments_ok : goal.returns-in-Ok-clause-moments_ok
-returns-in-Ok-clause-moments_ok g c = λ tells. moments-ok (loaded g c) tells c.replay.result c.replay.ensures.journal
+returns-in-Ok-clause-moments_ok g c = λ tells. all-kept (loaded g c) (λ j. LeavesOnly g.D.Disk.moment g.D.Disk.left_since c.args.disk (journals.disk_of j) (λ x. g.D.Disk.may_leave c.args.disk x ⊎ StaysAsItOpens c.args.host (new_area c.args.limit) (g.D.Disk.seen c.args.disk) x)) ((loaded g c).moments tells) c.replay.result c.replay.ensures.journal
 
 pub returns-in-Ok-clause-moments_err : goal.returns-in-Ok-clause-moments_err
-returns-in-Ok-clause-moments_err g c = λ tells. moments-err (loaded g c) tells c.replay.result c.replay.ensures.disk
+returns-in-Ok-clause-moments_err g c = λ tells. all-back (loaded g c) (λ back. LeavesOnly g.D.Disk.moment g.D.Disk.left_since c.args.disk back (λ x. g.D.Disk.may_leave c.args.disk x ⊎ StaysAsItOpens c.args.host (new_area c.args.limit) (g.D.Disk.seen c.args.disk) x)) ((loaded g c).moments tells) c.replay.result c.replay.ensures.disk
 
 pub returns-in-Err-clause-says : goal.returns-in-Err-clause-says
 returns-in-Err-clause-says g c = λ tells.
@@ -66,5 +72,10 @@ returns-in-Err-clause-moments_err g c = λ tells.
     let d = g.D.Disk in
     let area = new_area c.args.limit in
     let same : c.as_bytes.result.now ≡ c.args.host = c.as_bytes.ensures.value ∙ c.as_str.ensures ∙ c.text.ensures.text in
-    wider d c.args.host area c.args.disk c.in-Err.disk
-    (subst (λ (label : List ℕ). LeavesOnly d.moment d.left_since c.args.disk c.in-Err.disk (λ x. d.may_leave c.args.disk x ⊎ StaysAsItOpens label area (d.seen c.args.disk) x)) same (c.in-Err.ensures.moments_err tells))
+    subst (λ (label : List ℕ). LeavesOnly d.moment d.left_since c.args.disk c.in-Err.disk (λ x. d.may_leave c.args.disk x ⊎ StaysAsItOpens label area (d.seen c.args.disk) x)) same (c.in-Err.ensures.moments_err tells)
+
+pub returns-in-Err-clause-same_err : goal.returns-in-Err-clause-same_err
+returns-in-Err-clause-same_err g c = λ tells.
+    let d = g.D.Disk in
+    let same : c.as_bytes.result.now ≡ c.args.host = c.as_bytes.ensures.value ∙ c.as_str.ensures ∙ c.text.ensures.text in
+    subst (λ (label : List ℕ). StaysAsItOpens label (new_area c.args.limit) (d.seen c.args.disk) (d.seen c.in-Err.disk)) same (c.in-Err.ensures.stays_err tells)
