@@ -6,6 +6,7 @@ use Rattle.ocm_server.specs.Objects.{Begins, Service}
 use Rattle.ocm_server.specs.declared.served.Served.{Served}
 use Rattle.ocm_server.specs.declared.served.Served.TheVariants.{Ended, DoorFault, DiskFault, NotJournal, OtherHost, NoMemory}
 use Rattle.ocm_serve.specs.Runs.{HasServed, IsCounted, IsDiskFault, IsLoaded, IsOpenedTo, IsSaid, IsServed, as_served}
+use Rattle.ocm_store.specs.Opening as stores
 use Rattle.ocm_store.specs.Opening.{IsNoDiskFault}
 use Rattle.ocm_store.specs.Stores.{IsLegalUnder, Stands, disk_of, terms_of}
 use Rattle.ocm_store.specs.declared.load_faults.LoadFault.{LoadFault}
@@ -16,7 +17,7 @@ use Rattle.ocm_turn.specs.Passes.{Gate, Known}
 use Rattle.ocm_turn.specs.declared.view.Call.{Call}
 
 pub served : {D : Type 0} (disk : Ghosts D) (limit : ℕ) (IsBase : List Entry → Type 0) (store left : Store D disk) (after : D) (c o calls own : ℕ)
-    (IsEach : Gate → Known Terms → List (List Call) → Type 0) (gate : Gate) (first : Known Terms)
+    (IsEach : Gate → Known Terms → ℕ → List (List Call) → Type 0) (gate : Gate) (first : Known Terms)
     → (c ≡ calls) × (o ≡ own) → Begins limit (terms_of store) gate first → IsBase first.base × Stands disk store first.base [] × IsLegalUnder first.terms first.base []
     → Service (λ (s : Store D disk). terms_of s) (Stands disk) IsLegalUnder gate first left calls own (IsEach gate first) → after ≡ disk_of left
     → IsServed disk limit IsBase store after c o IsEach
@@ -65,6 +66,20 @@ sound-told (loads.OtherHost found) none is = is
 sound-told (loads.DiskFault count) none is = none
 sound-told loads.NoMemory none is = is
 
+-- what the bytes say of a disk that is not loaded is told so
+pub refused-said : (says : Result (List Entry) LoadFault) (fault : LoadFault) → stores.IsSaidBy says fault → IsSaid says (as_served fault)
+refused-said says (loads.NotJournal place) is = is
+refused-said says (loads.OtherHost found) is = is
+refused-said says (loads.DiskFault count) is = tt
+refused-said says loads.NoMemory is = tt
+
+-- and so is a count of faults
+pub refused-counted : (before now : ℕ) (fault : LoadFault) → stores.IsCounted before now fault → IsCounted before now (as_served fault)
+refused-counted before now (loads.NotJournal place) is = tt
+refused-counted before now (loads.OtherHost found) is = tt
+refused-counted before now (loads.DiskFault count) is = is
+refused-counted before now loads.NoMemory is = tt
+
 -- a disk that was not loaded was not served
 pub unserved : (fault : LoadFault) (c o : ℕ) → HasServed (as_served fault) c o → ⊥
 unserved (loads.NotJournal place) c o has = has
@@ -78,7 +93,7 @@ opened_same {D} disk area host host2 before before2 k same same2 opens =
     subst (λ (d : D). IsOpenedTo disk host2 area d k) same2 (subst (λ (h : List ℕ). IsOpenedTo disk h area before k) same opens)
 
 -- what is known of a base by other words
-pub based : {D : Type 0} (disk : Ghosts D) (limit : ℕ) (IsBase IsBase2 : List Entry → Type 0) (store : Store D disk) (after : D) (c o : ℕ) (IsEach : Gate → Known Terms → List (List Call) → Type 0)
+pub based : {D : Type 0} (disk : Ghosts D) (limit : ℕ) (IsBase IsBase2 : List Entry → Type 0) (store : Store D disk) (after : D) (c o : ℕ) (IsEach : Gate → Known Terms → ℕ → List (List Call) → Type 0)
     → ((k : List Entry) → IsBase k → IsBase2 k) → IsServed disk limit IsBase store after c o IsEach → IsServed disk limit IsBase2 store after c o IsEach
 based disk limit IsBase IsBase2 store after c o IsEach then s = record {
   gate = s.gate;

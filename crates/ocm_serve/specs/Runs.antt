@@ -75,7 +75,7 @@ IsOpenedTo disk host area before k = disk.tells → (loading host area (disk.see
 -- A store was served by so many calls, of which so many are those of its workers, and its disk came back. It stood for a base at first, of
 -- which something is known, and at the end for that base and one history in which the calls of all workers stand; what is known of each
 -- worker is told apart.
-pub record IsServed {D : Type 0} (disk : Ghosts D) (limit : ℕ) (IsBase : List Entry → Type 0) (store : Store D disk) (after : D) (calls own : ℕ) (IsEach : Gate → Known Terms → List (List Call) → Type 0) : Type 0 where
+pub record IsServed {D : Type 0} (disk : Ghosts D) (limit : ℕ) (IsBase : List Entry → Type 0) (store : Store D disk) (after : D) (calls own : ℕ) (IsEach : Gate → Known Terms → ℕ → List (List Call) → Type 0) : Type 0 where
   pub gate : Gate
   pub first : Known Terms
   pub left : Store D disk
@@ -88,7 +88,7 @@ pub record IsServed {D : Type 0} (disk : Ghosts D) (limit : ℕ) (IsBase : List 
 
 -- a server ran by a plan: it knew of itself what the plan says, and the store of its host was loaded from a disk, and served behind what
 -- the disk opens to
-pub record Ran {D : Type 0} (disk : Ghosts D) (plan : Plan) (area limit : ℕ) (before after : D) (calls own : ℕ) (IsEach : Config → Gate → Known Terms → List (List Call) → Type 0) : Type 0 where
+pub record Ran {D : Type 0} (disk : Ghosts D) (plan : Plan) (area limit : ℕ) (before after : D) (calls own : ℕ) (IsEach : Config → Gate → Known Terms → ℕ → List (List Call) → Type 0) : Type 0 where
   pub config : Config
   pub config_is : config ≡ config_of plan
   pub store : Store D disk

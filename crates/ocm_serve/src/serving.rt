@@ -1,11 +1,11 @@
 //! A store, served from its disk to its disk.
 ghost use Rattle.std.specs.Prelude.{◌≡◌, ◌<◌, ◌≤◌, ◌^◌, ℕ, [], List, true, false, length, slice_index_or, IfOk};
-ghost use Rattle.ocm_journal.specs.Openings.{new_area};
+ghost use Rattle.ocm_journal.specs.Openings.{StaysAsItOpens, new_area};
 ghost use Rattle.ocm_server.specs.Objects.{Shift, draw_at};
 ghost use Rattle.ocm_server.specs.Visits.{work};
 ghost use Rattle.ocm_server.specs.declared.workers.Rounds.TheVariants as rounds;
 ghost use Rattle.ocm_store.specs.Opening.{loading};
-ghost use Rattle.ocm_store.specs.Stores.{IsLegalUnder, Stands, terms_of};
+ghost use Rattle.ocm_store.specs.Stores.{IsLegalUnder, Stands, disk_of, terms_of};
 ghost use Rattle.ocm_entry.specs.declared.entries.Entry.{Entry};
 ghost use Rattle.ocm_serve.specs.Runs.{HasServed, IsCounted, IsDiskFault, IsLoaded, IsSaid, IsServed, IsUnserved, Ran, as_served, config_of};
 
@@ -52,15 +52,15 @@ where
     L::Conn: Send,
     requires some { 0 < length workers.old }
 
-    // The calls of all workers stand in one history, which is legal behind what the disk opened to, and the disk that comes back is
-    // that of a store that stands for it.
+    // The calls of each worker stand in one history, in the order in which it made them. The history is legal behind what the disk
+    // opened to, and the disk that comes back is that of a store that stands for it.
     ensures served { (calls own : ℕ) → HasServed result.0 calls own → Ran ⟦<D as Disk>⟧ plan.now (new_area 1073741824) (2 ^ 63) disk result.1 calls own
-        (λ config gate first all. (i : ℕ) (d : _) → i < length workers.old →
+        (λ config gate first count all. (length all ≡ length workers.old) × ((i : ℕ) (d : _) → i < length workers.old →
         let a = slice_index_or workers.old i d in let b = slice_index_or workers.new i d in
         Shift L.Conn.sides config gate first (draw_at draw_key i)
         (work (L.told a.door) (L.faults a.door) (N.exchanges a.dial) (N.faults a.dial) a.draw (K.given a.clock) a.pass a.end)
         (work (L.told b.door) (L.faults b.door) (N.exchanges b.dial) (N.faults b.dial) b.draw (K.given b.clock) b.pass b.end)
-        (slice_index_or all i [])) }
+        (slice_index_or all i []) count)) }
 
     // It ended where every door came to its end, and else the door of a worker failed.
     ensures ended { (calls own : ℕ) → result.0 ≡ Served.Ended calls own → (i : ℕ) (d : _) → i < length workers.new → (slice_index_or workers.new i d).end ≡ rounds.Ended }
@@ -71,6 +71,9 @@ where
     ensures counted { IsCounted (D.count disk) (D.count result.1) result.0 }
     ensures unfailing { ((n : ℕ) → D.passes disk n) → IsDiskFault result.0 → ⊥ }
     ensures unasked { IsUnserved result.0 → workers.new ≡ workers.old }
+
+    // Then the disk reads as before, or, where no journal was made on it before, it opens to nothing as before.
+    ensures kept { D.tells → IsUnserved result.0 → StaysAsItOpens plan.now.host (new_area 1073741824) (D.seen disk) (D.seen result.1) }
 {
     let Ok((config, host)) = names_of(plan) else {
         return (Served::NoMemory, disk);
@@ -128,16 +131,17 @@ where
     requires some { 0 < length workers.old }
     requires store { (k : List Entry) × J.known k × Stands ⟦<D as Disk>⟧ store k [] × IsLegalUnder (terms_of store) k [] }
     ensures served { (calls own : ℕ) → HasServed result.0 calls own → IsServed ⟦<D as Disk>⟧ (2 ^ 63) J.known store result.1 calls own
-        (λ gate first all. (i : ℕ) (d : _) → i < length workers.old →
+        (λ gate first count all. (length all ≡ length workers.old) × ((i : ℕ) (d : _) → i < length workers.old →
         let a = slice_index_or workers.old i d in let b = slice_index_or workers.new i d in
         Shift L.Conn.sides config.now gate first (draw_at draw_key i)
         (work (L.told a.door) (L.faults a.door) (N.exchanges a.dial) (N.faults a.dial) a.draw (K.given a.clock) a.pass a.end)
         (work (L.told b.door) (L.faults b.door) (N.exchanges b.dial) (N.faults b.dial) b.draw (K.given b.clock) b.pass b.end)
-        (slice_index_or all i [])) }
+        (slice_index_or all i []) count)) }
     ensures ended { (calls own : ℕ) → result.0 ≡ Served.Ended calls own → (i : ℕ) (d : _) → i < length workers.new → (slice_index_or workers.new i d).end ≡ rounds.Ended }
     ensures fault { (calls own : ℕ) → result.0 ≡ Served.DoorFault calls own → (i : ℕ) × (i < length workers.new) × ((d : _) → (slice_index_or workers.new i d).end ≡ rounds.DoorFault) }
     ensures loaded { IsLoaded result.0 }
     ensures unasked { IsUnserved result.0 → workers.new ≡ workers.old }
+    ensures kept { IsUnserved result.0 → result.1 ≡ disk_of store }
 {
     match serve_object::<J, Store<D>, L, N, K, R>(
         rt, alloc, config, workers, store, CALLS, draw_key,

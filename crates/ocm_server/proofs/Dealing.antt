@@ -1,7 +1,9 @@
 -- Workers changed one after another.
-use Rattle.std.proofs.Common.{◌≡◌, ◌≢◌, ℕ, ◌+◌, ◌<◌, ◌≤◌, ◌⊎◌, List, [], ◌∷◌, length, get_or, set, drop, map, add-one, inl, inr, refl, sym, ap, subst, ◌∙◌, arith}
+use Rattle.std.proofs.Common.{◌≡◌, ℕ, ◌+◌, ◌<◌, ◌≤◌, ◌⊎◌, List, ◌∷◌, length, get_or, set, drop, map, add-one, inl, inr, refl, sym, ap, subst, ◌∙◌, arith}
 use Rattle.std.proofs.lemmas.List.{get_or_default, get_or-set_same, get_or-set_other, drop_all}
+use Rattle.std.proofs.Math.Nat.{le-max_left, le-max_right}
 use Rattle.std.proofs.Math.Seq.{drop-cons}
+use Rattle.std.specs.Prelude.{max}
 use Rattle.ocm_turn.specs.declared.view.Call.{Call}
 use Rattle.ocm_turn.specs.Calls.{merged}
 use Rattle.ocm_server.specs.Objects.{gathered}
@@ -31,6 +33,18 @@ module _ {W : Type 0} where
       here : (i : ℕ) (d : W) → (i < k) ⊎ (i ≡ k) → get_or (set new k y) i d ≡ change i (get_or old i d)
       here i d (inl h) = get_or-set_other new k i y d (λ e. omega (arith, h, e)) ∙ before.changed i d h
       here i d (inr e) = subst (λ (j : ℕ). get_or (set new k y) j d ≡ change j (get_or old j d)) (sym e) (same d)
+
+  -- a number is no less than that of each worker below a place
+  pub drawn_more : (drawn : W → ℕ) (old new : List W) (k : ℕ) (x : W) (n n' : ℕ) → ((i : ℕ) (d : W) → i < k → drawn (get_or old i d) ≤ n) → k < length new → ((d : W) → get_or new k d ≡ get_or old k d) → x ≡ get_or new k x
+      → n' ≡ max n (drawn x) → (i : ℕ) (d : W) → i < k + 1 → drawn (get_or old i d) ≤ n'
+  drawn_more drawn old new k x n n' before at same x_is most i d h = here (below_or_at i k h)
+    where
+      x_old : x ≡ get_or old k d
+      x_old = x_is ∙ (get_or_default new k x d at ∙ same d)
+
+      here : (i < k) ⊎ (i ≡ k) → drawn (get_or old i d) ≤ n'
+      here (inl h) = let low = before i d h in let up = le-max_left n (drawn x) in omega (arith, low, up, most)
+      here (inr e) = let up = le-max_right n (drawn x) in subst (λ (j : ℕ). drawn (get_or old j d) ≤ n') (sym e) (subst (λ (w : W). drawn w ≤ n') x_old (omega (arith, up, most)))
 
   -- gathered calls of the workers from a place on
   pub gathered_more : (mine : W → List Call) (old new : List W) (k : ℕ) (x : W) (acc acc' : List Call) → k < length old → ((d : W) → get_or new k d ≡ get_or old k d) → k < length new → x ≡ get_or new k x

@@ -1,5 +1,5 @@
 -- Calls that were gathered, as the shares of those who made them.
-use Rattle.std.proofs.Common.{◌≡◌, ◌≢◌, ℕ, ◌+◌, List, [], ◌∷◌, length, refl, sym, ap, ◌∙◌, arith}
+use Rattle.std.proofs.Common.{◌≡◌, ◌≢◌, ℕ, ◌+◌, List, [], ◌∷◌, length, arith}
 use Rattle.std.specs.List.{AllByRecursion}
 use Rattle.ocm_entry.specs.declared.entries.Entry.{Entry}
 use Rattle.ocm_turn.specs.declared.view.Call.{Call}
@@ -23,20 +23,20 @@ apart_both calls others (x ∷ all) h =
     let k = apart_both calls others all h.1 in
     ((both.0, k.0), (both.1, k.1))
 
-alone_all : (calls : List Call) (all : List (List Call)) → EachAlone (gathered calls all) → EachAlone calls × AllByRecursion EachAlone all × AllByRecursion (Disjoint calls) all × AllApart all
-alone_all calls [] h = (h, tt, tt, tt)
-alone_all calls (others ∷ more) h =
-    let k = alone_all (merged calls others) more h in
+apart_all : (calls : List Call) (all : List (List Call)) → EachAlone (gathered calls all) → EachAlone calls × AllByRecursion (Disjoint calls) all × AllApart all
+apart_all calls [] h = (h, tt, tt)
+apart_all calls (others ∷ more) h =
+    let k = apart_all (merged calls others) more h in
     let both = joined_are_alone calls others k.0 in
-    let apart = apart_both calls others more k.2 in
-    (both.0, (both.1, k.1), (both.2, apart.0), (apart.1, k.3))
+    let apart = apart_both calls others more k.1 in
+    (both.0, (both.2, apart.0), (apart.1, k.2))
 
 count_all : (calls : List Call) (all : List (List Call)) → length (gathered calls all) ≡ length calls + number_of all
 count_all calls [] = omega arith
 count_all calls (others ∷ more) = let k = count_all (merged calls others) more in let n = joined_are_counted calls others in omega (arith, k, n)
 
-pub shares : (history : List Entry) (all : List (List Call)) (own : ℕ) → StandIn history (gathered [] all) → InOrder (gathered [] all) → own ≡ length (gathered [] all) → Shares history all own
-shares history all own stand order count =
-    let a = alone_all [] all (ordered_are_alone (gathered [] all) order) in
+pub shares : (history : List Entry) (all : List (List Call)) (own : ℕ) → StandIn history (gathered [] all) → AllByRecursion InOrder all → InOrder (gathered [] all) → own ≡ length (gathered [] all) → Shares history all own
+shares history all own stand each order count =
+    let a = apart_all [] all (ordered_are_alone (gathered [] all) order) in
     let n = count_all [] all in
-    record { stand = (stand_all history [] all stand).1; alone = a.1; apart = a.3; counted = omega (arith, count, n) }
+    record { stand = (stand_all history [] all stand).1; order = each; apart = a.2; counted = omega (arith, count, n) }

@@ -1,14 +1,16 @@
 -- Connections one after another.
-use Rattle.std.proofs.Common.{◌≡◌, ℕ, ◌<◌, List, [], ◌∷◌, ◌++◌, length, Bool, true, false, Option, Some, None, Result, Ok, Err, refl, sym, ap, subst, ◌∙◌, arith}
-use Rattle.std.specs.Prelude.{option_map, IfOk, IfSome}
+use Rattle.std.proofs.Common.{◌≡◌, ℕ, List, [], ◌∷◌, ◌++◌, true, false, Option, Some, None, Result, Ok, refl, sym, ap, subst, ◌∙◌}
+use Rattle.std.specs.Prelude.{option_map, IfOk, IfSome, OnOk}
 use Rattle.ocm_dav.specs.declared.configs.Config.{Config}
 use Rattle.ocm_entry.specs.declared.entries.Entry.{Entry}
 use Rattle.ocm_turn.specs.Moves.{Moved}
-use Rattle.ocm_turn.specs.Passes.{Known}
 use Rattle.ocm_turn.proofs.MoveLemmas.{moved_nothing, moved_then}
 use Rattle.ocm_connections.specs.Sides.{Sides}
-use Rattle.ocm_server.specs.Doors.{Doorway, given, came, over, IsOut}
-use Rattle.ocm_server.specs.Visits.{Desk, Visit, Visited, Visits, visited, left, Comes, Serves}
+use Rattle.ocm_server.specs.Doors.{Doorway, given, came, over}
+use Rattle.ocm_server.specs.Visits.{Desk, Visit, Visits, visited, left, Comes, Serves}
+
+pub ok_of : {E A : Type 0} (P : Type 0) (r : Result A E) (a : A) → OnOk r P → r ≡ Ok a → P
+ok_of {E} {A} P r a h e = subst (λ (x : Result A E). OnOk x P) e h
 
 pub some_of : {E A : Type 0} (P : A → Type 0) (r : Result (Option A) E) (o : Option A) (a : A) → IfOk r (λ x. IfSome x P) → r ≡ Ok o → o ≡ Some a → P a
 some_of {E} {A} P r o a h e f = subst (λ (x : Result (Option A) E). IfOk x (λ y. IfSome y P)) (e ∙ ap Ok f) h

@@ -1,5 +1,5 @@
 -- Doors.
-use Rattle.std.specs.Prelude.{ℕ, ◌<◌, Bool, true, false, List, [], ◌∷◌, length, Option, IfSome}
+use Rattle.std.specs.Prelude.{◌<◌, Bool, true, List, ◌∷◌, length, Option, IfSome}
 use Rattle.ocm_connections.specs.declared.endings.Ended.{Ended}
 use Rattle.ocm_server.specs.declared.returned.Back.{Back}
 

@@ -1,11 +1,10 @@
 -- An object served by workers, from its first call to its last.
-use Rattle.std.specs.Prelude.{◌≡◌, ℕ, ◌+◌, List, [], ◌∷◌, length, Option, Some, None, ⊤}
+use Rattle.std.specs.Prelude.{◌≡◌, ℕ, ◌+◌, ◌≤◌, List, [], ◌∷◌, length, Option, Some, None, ⊤}
 use Rattle.std.specs.List.{AllByRecursion}
 use Rattle.rand_chacha.specs.ChaCha.{ChaCha, key_of}
 use Rattle.ocm_entry.specs.declared.entries.Entry.{Entry}
 use Rattle.ocm_turn.specs.declared.view.Call.{Call}
-use Rattle.ocm_turn.specs.Calls.{StandIn, Disjoint, merged}
-use Rattle.ocm_turn.specs.Laws.{EachAlone}
+use Rattle.ocm_turn.specs.Calls.{StandIn, InOrder, Disjoint, merged}
 use Rattle.ocm_turn.specs.Passes.{Gate, Known, BelongsTo}
 use Rattle.ocm_dav.specs.declared.configs.Config.{Config}
 use Rattle.ocm_connections.specs.Sides.{Sides}
@@ -24,6 +23,11 @@ abbrev pub mine_of : {Terms : Type 0} → Option (Known Terms) → List Call
 mine_of (Some pass) = pass.mine
 mine_of None = []
 
+-- the greatest ticket word that a pass found, where there is a pass
+abbrev pub drawn_of : {Terms : Type 0} → Option (Known Terms) → ℕ
+drawn_of (Some pass) = pass.drawn
+drawn_of None = 0
+
 -- calls joined with those of others, one after another
 abbrev pub gathered : List Call → List (List Call) → List Call
 gathered calls [] = calls
@@ -39,10 +43,10 @@ abbrev pub number_of : List (List Call) → ℕ
 number_of [] = 0
 number_of (calls ∷ others) = length calls + number_of others
 
--- the calls of each stand in the history, each call at a place of its own, and there are so many in all
+-- the calls of each stand in the history, in the order in which they were made, each call at a place of its own, and there are so many in all
 pub record Shares (history : List Entry) (all : List (List Call)) (own : ℕ) : Type 0 where
   pub stand : AllByRecursion (StandIn history) all
-  pub alone : AllByRecursion EachAlone all
+  pub order : AllByRecursion InOrder all
   pub apart : AllApart all
   pub counted : own ≡ number_of all
 
@@ -50,11 +54,13 @@ pub record Shares (history : List Entry) (all : List (List Call)) (own : ℕ) : 
 abbrev pub begun : {C Terms : Type 0} → Work C Terms → ChaCha → Known Terms → Work C Terms
 begun w draw pass = record w { draw = draw; pass = Some pass }
 
--- one worker: it began with its stream of drawn values and a pass that knows no call, and served its door; these are its calls, and its pass is gone
-pub record Shift {C Terms : Type 0} (sides : C → Sides) (config : Config) (gate : Gate) (first : Known Terms) (draw : ChaCha) (old new : Work C Terms) (calls : List Call) : Type 0 where
+-- one worker: it began with its stream of drawn values and a pass that knows no call, and served its door; these are its calls, and its pass is gone.
+-- No ticket word that it found is above the number of all calls: it was refused a call only where so many were made as the turnstile allows.
+pub record Shift {C Terms : Type 0} (sides : C → Sides) (config : Config) (gate : Gate) (first : Known Terms) (draw : ChaCha) (old new : Work C Terms) (calls : List Call) (count : ℕ) : Type 0 where
   pub last : Known Terms
   pub worked : Worked sides config gate (begun old draw first) (record new { pass = Some last })
   pub calls_are : calls ≡ last.mine
+  pub within : last.drawn ≤ count
   pub no_pass : new.pass ≡ None
 
 -- the first pass of a turnstile of this limit, over a value of these terms
@@ -66,11 +72,12 @@ pub record Begins {Terms : Type 0} (limit : ℕ) (terms : Terms) (gate : Gate) (
   pub uncalled : first.mine ≡ []
   pub undrawn : first.drawn ≡ 0
 
--- A value was served: the turnstile and its first pass, the one history, and the calls of each worker; what is known of each worker is told apart.
-pub record Service {T Terms : Type 0} (terms_of : T → Terms) (stands : T → List Entry → List Entry → Type 0) (legal : Terms → List Entry → List Entry → Type 0) (gate : Gate) (first : Known Terms) (left : T) (calls own : ℕ) (IsEach : List (List Call) → Type 0) : Type 0 where
+-- A value was served: the turnstile and its first pass, the one history, and the calls of each worker; what is known of each worker is told apart, by
+-- the number of all calls and the calls of each.
+pub record Service {T Terms : Type 0} (terms_of : T → Terms) (stands : T → List Entry → List Entry → Type 0) (legal : Terms → List Entry → List Entry → Type 0) (gate : Gate) (first : Known Terms) (left : T) (calls own : ℕ) (IsEach : ℕ → List (List Call) → Type 0) : Type 0 where
   pub history : List Entry
   pub all : List (List Call)
-  pub each : IsEach all
+  pub each : IsEach calls all
   pub shares : Shares history all own
   pub stands_for : stands left first.base history
   pub lawful : legal first.terms first.base history

@@ -1,18 +1,20 @@
 -- Connections one after another, with a round of delivery after each.
-use Rattle.std.specs.Prelude.{◌≡◌, ℕ, ◌≤◌, Bool, true, false, List, [], ◌∷◌, ◌++◌, map, Option, Some, None, option_map}
+use Rattle.std.specs.Prelude.{◌≡◌, ◌≢◌, ℕ, ◌<◌, ◌≤◌, Bool, true, false, List, [], ◌∷◌, ◌++◌, map, Option, Some, None, option_map}
 use Rattle.rand_chacha.specs.ChaCha.{ChaCha}
 use Rattle.ocm_base.specs.Outside.{Rose}
 use Rattle.ocm_dav.specs.declared.configs.Config.{Config}
 use Rattle.ocm_entry.specs.declared.entries.Entry.{Entry}
 use Rattle.ocm_pump.specs.declared.exchanges.Exchange.{Exchange}
+use Rattle.ocm_turn.specs.Calls.{InOrder}
 use Rattle.ocm_turn.specs.Moves.{Moved}
 use Rattle.ocm_turn.specs.Passes.{Gate, Known, BelongsTo}
 use Rattle.ocm_connections.specs.declared.endings.Ended as endings
 use Rattle.ocm_connections.specs.Sides.{Sides}
 use Rattle.ocm_connections.specs.Parts.{State, state, Talked}
 use Rattle.ocm_rounds.specs.declared.pumped.Pumped.{Pumped}
+use Rattle.ocm_rounds.specs.declared.pumped.RoundEnd.TheVariants.{Spent}
 use Rattle.ocm_rounds.specs.Rounds.{hold, Rounded}
-use Rattle.ocm_server.specs.Doors.{Doorway, given, came, over}
+use Rattle.ocm_server.specs.Doors.{Doorway, came, over}
 use Rattle.ocm_server.specs.declared.returned.Back.{Back}
 use Rattle.ocm_server.specs.declared.workers.Rounds.{Rounds}
 use Rattle.ocm_server.specs.declared.workers.Rounds.TheVariants.{Ended, DoorFault}
@@ -38,7 +40,7 @@ desk draw clock exchanges pass = record { draw = draw; clock = clock; exchanges 
 abbrev pub at : {Terms : Type 0} → Sides → Desk Terms → State Terms
 at sides d = state sides d.draw d.clock d.pass
 
--- one connection was served, and then one round of delivery made
+-- one connection was served, and then one round of delivery made, which is spent exactly where the turnstile's limit is reached
 pub record Visited {Terms : Type 0} (config : Config) (limit : ℕ) (given back : Sides) (ended : endings.Ended) (pumped : Pumped) (old new : Desk Terms) : Type 0 where
   pub middle : Desk Terms
   pub dial_waits : middle.exchanges ≡ old.exchanges
@@ -46,6 +48,8 @@ pub record Visited {Terms : Type 0} (config : Config) (limit : ℕ) (given back 
   pub draw_waits : new.draw ≡ middle.draw
   pub clock_waits : new.clock ≡ middle.clock
   pub rounded : Rounded (hold middle.pass middle.exchanges) (hold new.pass new.exchanges) pumped
+  pub spent : pumped.end ≡ Spent → limit ≤ new.pass.drawn
+  pub below : pumped.end ≢ Spent → new.pass.drawn < limit
 
 -- these visits were made one after another, the newest first
 abbrev pub Visits : {C Terms : Type 0} → (C → Sides) → Config → ℕ → List (Visit C) → Desk Terms → Desk Terms → Type 0
@@ -104,7 +108,7 @@ abbrev pub Owns : {Terms : Type 0} → Gate → Option (Known Terms) → Type 0
 Owns gate (Some pass) = BelongsTo gate pass
 Owns gate None = ⊥
 
--- a worker served its door to its end or its first fault, with its pass
+-- a worker served its door to its end or its first fault, with its pass, whose calls stand in the order in which they were made
 pub record Worked {C Terms : Type 0} (sides : C → Sides) (config : Config) (gate : Gate) (old new : Work C Terms) : Type 0 where
   pub before : Known Terms
   pub after : Known Terms
@@ -113,6 +117,8 @@ pub record Worked {C Terms : Type 0} (sides : C → Sides) (config : Config) (ga
   pub own : BelongsTo gate after
   pub moved : (calls : List Entry) × Moved before after calls
   pub serves : Serves sides config gate.limit old.told new.told (ends new.end) (desk old.draw old.clock old.exchanges before) (desk new.draw new.clock new.exchanges after)
+  pub order : InOrder after.mine
   pub fault : new.end ≡ DoorFault → Rose old.faults new.faults
+  pub unfailed : new.end ≡ Ended → new.faults ≡ old.faults
   pub never_falls : old.faults ≤ new.faults
   pub dial_never_falls : old.dial_faults ≤ new.dial_faults

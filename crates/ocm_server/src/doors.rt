@@ -1,4 +1,4 @@
-ghost use Rattle.std.specs.Prelude.{◌≡◌, ◌≤◌, ℕ, None, Option, IfOk, IfSome, OnErr, option_map};
+ghost use Rattle.std.specs.Prelude.{◌≡◌, ◌≤◌, ℕ, None, Option, IfOk, IfSome, OnErr, OnOk, option_map};
 ghost use Rattle.ocm_base.specs.Outside.{Rose};
 ghost use Rattle.ocm_server.specs.Doors.{Doorway, given, came, over, IsOut};
 
@@ -21,6 +21,7 @@ pub trait Door: Drop {
         ensures out { IfOk result (λ o. IfSome o (λ _. IsOut (told self.new))) }
         ensures over { IfOk result (λ o. o ≡ None → told self.new ≡ option_map over (told self.old)) }
         ensures err { OnErr result (told self.new ≡ told self.old) }
+        ensures kept { OnOk result (faults self.new ≡ faults self.old) }
         ensures rose { OnErr result (Rose (faults self.old) (faults self.new)) }
         ensures never_falls { faults self.old ≤ faults self.new };
 

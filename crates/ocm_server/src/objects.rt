@@ -55,12 +55,12 @@ where
     requires uncalled { pass.mine ≡ [] }
     requires some { 0 < length workers.old }
     ensures { Service T.terms T.stands T.legal node pass result.value result.calls result.own
-        (λ all. (i : ℕ) (d : Worker T L N K T.Terms L.Conn) → i < length workers.old →
+        (λ count all. (length all ≡ length workers.old) × ((i : ℕ) (d : Worker T L N K T.Terms L.Conn) → i < length workers.old →
         let a = slice_index_or workers.old i d in let b = slice_index_or workers.new i d in
         Shift L.Conn.sides config.now node pass (draw_at draw_key i)
         (work (L.told a.door) (L.faults a.door) (N.exchanges a.dial) (N.faults a.dial) a.draw (K.given a.clock) a.pass a.end)
         (work (L.told b.door) (L.faults b.door) (N.exchanges b.dial) (N.faults b.dial) b.draw (K.given b.clock) b.pass b.end)
-        (slice_index_or all i [])) }
+        (slice_index_or all i []) count)) }
 {
     deal(&node, &mut pass, workers, draw_key);
     let rounds = serve_all(rt, alloc, config, &node, workers);
@@ -104,12 +104,12 @@ where
     ensures served { IfOk result (λ f. (gate : Gate) × (first : Known T.Terms) × Begins limit (T.terms value) gate first
         × (J.known first.base × T.stands value first.base [] × T.legal first.terms first.base [])
         × Service T.terms T.stands T.legal gate first f.value f.calls f.own
-        (λ all. (i : ℕ) (d : Worker T L N K T.Terms L.Conn) → i < length workers.old →
+        (λ count all. (length all ≡ length workers.old) × ((i : ℕ) (d : Worker T L N K T.Terms L.Conn) → i < length workers.old →
         let a = slice_index_or workers.old i d in let b = slice_index_or workers.new i d in
         Shift L.Conn.sides config.now gate first (draw_at draw_key i)
         (work (L.told a.door) (L.faults a.door) (N.exchanges a.dial) (N.faults a.dial) a.draw (K.given a.clock) a.pass a.end)
         (work (L.told b.door) (L.faults b.door) (N.exchanges b.dial) (N.faults b.dial) b.draw (K.given b.clock) b.pass b.end)
-        (slice_index_or all i []))) }
+        (slice_index_or all i []) count))) }
     ensures same { IfErr result (λ v. v ≡ value) }
     ensures unasked { IfErr result (λ _. workers.new ≡ workers.old) }
 {

@@ -1,9 +1,9 @@
 //! Passes handed out to workers, and gathered from them.
 
-ghost use Rattle.std.specs.Prelude.{◌≡◌, ◌<◌, ℕ, None, Some, All, map, length, slice_index_or};
+ghost use Rattle.std.specs.Prelude.{◌≡◌, ◌<◌, ◌≤◌, ℕ, None, Some, All, map, max, length, slice_index_or};
 ghost use Rattle.ocm_turn.specs.Calls.{merged};
 ghost use Rattle.ocm_turn.specs.Passes.{BelongsTo, SameGround};
-ghost use Rattle.ocm_server.specs.Objects.{beginner, draw_at, gathered, mine_of};
+ghost use Rattle.ocm_server.specs.Objects.{beginner, draw_at, drawn_of, gathered, mine_of};
 ghost use Rattle.ocm_server.specs.Visits.{Owns};
 
 use crate::doors::Door;
@@ -58,6 +58,7 @@ fn gather_one<T: Object, L: Door, N: Dial, K: Clock>(
     ensures own { BelongsTo node.now pass.new }
     ensures ground { SameGround pass.old pass.new }
     ensures mine { pass.new.mine ≡ merged pass.old.mine (mine_of worker.old.pass) }
+    ensures drawn { pass.new.drawn ≡ max pass.old.drawn (drawn_of worker.old.pass) }
     ensures worker { worker.new ≡ record worker.old { pass = None } }
 {
     let taken = worker.pass.take();
@@ -76,6 +77,7 @@ pub(crate) fn gather<T: Object, L: Door, N: Dial, K: Clock>(
     ensures own { BelongsTo node.now pass.new }
     ensures ground { SameGround pass.old pass.new }
     ensures mine { pass.new.mine ≡ gathered pass.old.mine (map (λ w. mine_of w.pass) workers.old) }
+    ensures drawn { (i : ℕ) (d : Worker T L N K T.Terms L.Conn) → i < length workers.old → drawn_of (slice_index_or workers.old i d).pass ≤ pass.new.drawn }
     ensures taken { (i : ℕ) (d : Worker T L N K T.Terms L.Conn) → i < length workers.old →
         slice_index_or workers.new i d ≡ record (slice_index_or workers.old i d) { pass = None } }
 {

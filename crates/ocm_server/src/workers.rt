@@ -70,6 +70,7 @@ fn serve_door<T: Object, L: Door, N: Dial, K: Clock, R: Wait>(
         (desk draw.old (K.given clock.old) (N.exchanges dial.old) pass.old) (desk draw.new (K.given clock.new) (N.exchanges dial.new) pass.new) }
     ensures own { BelongsTo node.now pass.new }
     ensures fault { result ≡ Rounds.DoorFault → Rose (L.faults door.old) (L.faults door.new) }
+    ensures unfailed { result ≡ Rounds.Ended → L.faults door.new ≡ L.faults door.old }
     ensures never_falls { L.faults door.old ≤ L.faults door.new }
     ensures dial_never_falls { N.faults dial.old ≤ N.faults dial.new }
 {
@@ -140,6 +141,8 @@ pub fn serve_worker<T: Object, L: Door, N: Dial, K: Clock, R: Wait>(
         &mut worker.draw,
         &mut worker.clock,
     );
+    // Whoever asks a pass for its calls is told that they stand in order.
+    let _calls = pass.calls();
     worker.pass = Some(pass);
 }
 

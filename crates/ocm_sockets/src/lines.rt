@@ -3,13 +3,13 @@ ghost use Rattle.std.specs.Prelude.{◌≤◌, ◌++◌, IfSome, length};
 
 use crate::streams::{read_now, write_now};
 use crate::waits::{Waits, Wanted, millis};
-use crate::wholes::message_end;
+use crate::wholes::Look;
 use std::alloc::Global;
 use std::net::{Shutdown, TcpStream};
 use std::os::fd::{AsRawFd, RawFd};
 use std::sync::Arc;
-use std::time;
 use std::time::Duration;
+use std::{mem, time};
 
 /// How long a read lingers for the next message, and a write for room, in milliseconds.
 pub const LINGER: u64 = 2;
@@ -71,6 +71,10 @@ pub struct Line<'a, R: time::Clock> {
     used: usize,
     /// Where the message at the front of those ahead ends, 0 where it doesn't look whole.
     whole: usize,
+    /// How far those ahead were looked at.
+    look: Look,
+    /// What a read that lingers takes bytes into, empty where none lingered since the line rested.
+    piece: Vec<u8>,
     unsent: Vec<u8>,
     sent: usize,
     /// The last thing that was asked of it is whether it rests, and it does.
@@ -103,6 +107,8 @@ impl<'a, R: time::Clock> Line<'a, R> {
             ahead: Vec::new(alloc),
             used: 0,
             whole: 0,
+            look: Look::new(),
+            piece: Vec::new(alloc),
             unsent: Vec::new(alloc),
             sent: 0,
             resting: false,
@@ -203,6 +209,7 @@ impl<'a, R: time::Clock> Line<'a, R> {
         self.begin();
         self.turns = 0;
         self.resting = false;
+        self.piece = Vec::new(self.alloc);
     }
 
     /// Ends the sending side once all is sent, and passes over what still comes: bytes that nobody reads would turn the
@@ -210,9 +217,11 @@ impl<'a, R: time::Clock> Line<'a, R> {
     pub fn begin_close(&mut self) {
         self.begin();
         self.closing = true;
+        self.piece = Vec::new(self.alloc);
         self.ahead = Vec::new(self.alloc);
         self.used = 0;
         self.whole = 0;
+        self.look = Look::new();
         self.end_sending();
     }
 
@@ -268,7 +277,7 @@ impl<'a, R: time::Clock> Line<'a, R> {
     /// Whether a message is ahead that is to be served now: it looks whole, or all connections together hold too much.
     fn has_message(&mut self) -> bool {
         let is_pressed = self.ahead.len() > AHEAD_IN_ANY_CASE && !self.waits.has_room();
-        self.whole = match message_end(&self.ahead) {
+        self.whole = match self.look.message_end(&self.ahead) {
             Some(end) => end,
             None if is_pressed => self.ahead.len(),
             None => 0,
@@ -302,6 +311,7 @@ impl<'a, R: time::Clock> Line<'a, R> {
         }
         self.used = 0;
         self.whole = 0;
+        self.look = Look::new();
     }
 
     /// Waits for a moment for the next message, where no other connection waits for this worker. Answers whether one
@@ -312,9 +322,22 @@ impl<'a, R: time::Clock> Line<'a, R> {
         }
         self.turns += 1;
         self.linger_again();
-        let mut piece = [0u8; PIECE];
+        let Some(mut piece) = self.take_piece() else {
+            return false;
+        };
         self.fill(&mut piece);
+        self.piece = piece;
         self.has_ended() || self.has_message()
+    }
+
+    /// The piece of reads that linger, which the line then doesn't have. None where there is no memory for one.
+    fn take_piece(&mut self) -> Option<Vec<u8>> {
+        let piece = mem::replace(&mut self.piece, Vec::new(self.alloc));
+        if piece.is_empty() {
+            Vec::from_elem(self.alloc, 0, PIECE).ok()
+        } else {
+            Some(piece)
+        }
     }
 
     /// What came ahead, or else what comes. None where the line failed or was too slow.

@@ -8,24 +8,140 @@ const MOST_GATHERED: usize = 1_081_344;
 /// How many bytes a head has at most.
 const MOST_IN_HEAD: usize = 16_384;
 
-/// How many bytes the first message has, where it looks whole, or like no message at all.
-pub fn message_end(bytes: &[u8]) -> Option<usize>
-    ensures { IfSome result (λ n. n ≤ length bytes.now) }
-{
-    if bytes.len() >= MOST_GATHERED {
-        return Some(bytes.len());
-    }
-    let Some(start) = head_end(bytes) else {
-        return is_no_head(bytes).then_some(bytes.len());
-    };
-    let (head, body) = bytes.split_at(start);
-    let length = body_end(head, body)?;
-    Some(start + length)
+/// What comes next in a message.
+#[derive(Clone, Copy, Debug, PartialEq, Eq)]
+enum Part {
+    /// The first line of a head, which may be empty.
+    First,
+    /// Another line of a head.
+    Field,
+    /// The line ahead of a chunk (RFC 9112 section 7.1).
+    Chunk,
+    /// A line behind the last chunk.
+    Trailer,
+    /// Nothing: it ends there.
+    End,
 }
 
-/// Whether the front of a head is none.
-fn is_no_head(bytes: &[u8]) -> bool {
-    bytes.len() > MOST_IN_HEAD || bytes.iter().any(|b| is_foreign(*b))
+/// How far a message was looked at, of which more bytes may come.
+#[derive(Clone, Copy, Debug)]
+pub struct Look {
+    part: Part,
+    /// Where that part begins, which may lie behind the bytes that are here.
+    place: usize,
+    /// How many bytes at the front were looked at before: the line at the place doesn't end in them.
+    seen: usize,
+    /// Whether a field says that the body comes in chunks.
+    is_chunked: bool,
+    /// How many bytes the body has by the first field that says so.
+    length: Option<usize>,
+}
+
+impl Look {
+    /// A message of which nothing was looked at.
+    pub fn new() -> Look {
+        Look {
+            part: Part::First,
+            place: 0,
+            seen: 0,
+            is_chunked: false,
+            length: None,
+        }
+    }
+
+    /// How many bytes the first message has, where it looks whole, or like no message at all. Those that were looked at
+    /// before are the front of these.
+    pub fn message_end(&mut self, bytes: &[u8]) -> Option<usize>
+        ensures { IfSome result (λ n. n ≤ length bytes.now) }
+    {
+        if bytes.len() >= MOST_GATHERED {
+            return Some(bytes.len());
+        }
+        for _ in 0..bytes.len() {
+            let Some(line) = self.next_line(bytes) else {
+                break;
+            };
+            self.pass(line);
+        }
+        if self.part == Part::End && self.place <= bytes.len() {
+            return Some(self.place);
+        }
+        if self.is_in_head() && is_no_head(bytes, self.seen) {
+            return Some(bytes.len());
+        }
+        self.seen = bytes.len();
+        None
+    }
+
+    /// Whether the head goes on.
+    fn is_in_head(&self) -> bool {
+        matches!(self.part, Part::First | Part::Field)
+    }
+
+    /// The line that comes next, with its end, where that is here.
+    fn next_line<'b>(&self, bytes: &'b [u8]) -> Option<&'b [u8]> {
+        if self.part == Part::End {
+            return None;
+        }
+        let start = self.place.max(self.seen);
+        let before = bytes.get(start..)?.iter().position(|b| *b == b'\n')?;
+        bytes.get(self.place..=start.saturating_add(before))
+    }
+
+    /// Passes over this line, and over what it says is behind it.
+    fn pass(&mut self, line: &[u8]) {
+        self.skip(line.len());
+        match self.part {
+            Part::First => self.part = Part::Field,
+            Part::Field => self.pass_field(line),
+            Part::Chunk => self.pass_chunk(line),
+            Part::Trailer if line.len() <= 2 => self.part = Part::End,
+            Part::Trailer | Part::End => {}
+        }
+    }
+
+    /// Passes over bytes.
+    fn skip(&mut self, count: usize) {
+        self.place = self.place.saturating_add(count);
+    }
+
+    /// Takes from a line of a head what it says of the body. The first empty one ends the head.
+    fn pass_field(&mut self, line: &[u8]) {
+        if matches!(line, b"\r\n" | b"\n") {
+            self.end_head();
+        } else if value_of(line, b"transfer-encoding:").is_some() {
+            self.is_chunked = true;
+        } else if let Some(value) = value_of(line, b"content-length:") {
+            self.length = self.length.or(Some(decimal_at(value)));
+        }
+    }
+
+    /// Ends the head, and passes over a body that doesn't come in chunks.
+    fn end_head(&mut self) {
+        if self.is_chunked {
+            self.part = Part::Chunk;
+        } else {
+            self.part = Part::End;
+            self.skip(self.length.unwrap_or(0));
+        }
+    }
+
+    /// Passes over the chunk behind this line.
+    fn pass_chunk(&mut self, line: &[u8]) {
+        let size = hexadecimal_at(line);
+        if size == 0 {
+            self.part = Part::Trailer;
+        } else {
+            // the line end behind a chunk has two bytes
+            self.skip(size.saturating_add(2));
+        }
+    }
+}
+
+/// Whether the front of a head is none, where these first bytes may stand in one.
+fn is_no_head(bytes: &[u8], seen: usize) -> bool {
+    let fresh = bytes.get(seen..).unwrap_or_default();
+    bytes.len() > MOST_IN_HEAD || fresh.iter().any(|b| is_foreign(*b))
 }
 
 /// A byte that stands in no head.
@@ -33,48 +149,10 @@ fn is_foreign(byte: u8) -> bool {
     byte == 127 || (byte < 32 && byte != b'\r' && byte != b'\n' && byte != b'\t')
 }
 
-/// How many bytes the body behind a head has, where it looks whole.
-fn body_end(head: &[u8], body: &[u8]) -> Option<usize>
-    ensures { IfSome result (λ n. n ≤ length body.now) }
-{
-    if behind(head, b"\ntransfer-encoding:").is_some() {
-        return chunks_end(body);
-    }
-    let length = match behind(head, b"\ncontent-length:") {
-        Some(value) => decimal_at(value),
-        None => 0,
-    };
-    if length <= body.len() {
-        Some(length)
-    } else {
-        None
-    }
-}
-
-/// The place behind the first empty line.
-fn head_end(bytes: &[u8]) -> Option<usize>
-    ensures { IfSome result (λ n. n ≤ length bytes.now) }
-{
-    for i in 1..bytes.len() {
-        if bytes[i] == b'\n'
-            && (bytes[i - 1] == b'\n'
-                || (i >= 2 && bytes[i - 1] == b'\r' && bytes[i - 2] == b'\n'))
-        {
-            return Some(i + 1);
-        }
-    }
-    None
-}
-
-/// What follows the first place where the word stands, its letters in either case.
-fn behind<'a>(bytes: &'a [u8], word: &[u8]) -> Option<&'a [u8]> {
-    let size = word.len();
-    for i in size..bytes.len() {
-        if bytes[i - size..i].eq_ignore_ascii_case(word) {
-            return Some(&bytes[i..]);
-        }
-    }
-    None
+/// What follows a name at the front of a line, its letters in either case.
+fn value_of<'a>(line: &'a [u8], name: &[u8]) -> Option<&'a [u8]> {
+    let (front, value) = line.split_at_checked(name.len())?;
+    front.eq_ignore_ascii_case(name).then_some(value)
 }
 
 /// The number at the front, behind blanks.
@@ -90,54 +168,6 @@ fn decimal_at(bytes: &[u8]) -> usize {
         }
     }
     number
-}
-
-/// How many bytes a body in chunks has (RFC 9112 section 7.1), where its last chunk and the lines behind it are here.
-fn chunks_end(body: &[u8]) -> Option<usize>
-    ensures { IfSome result (λ n. n ≤ length body.now) }
-{
-    let mut place = 0;
-    for _ in 0..body.len() {
-        let rest = body.get(place..)?;
-        let line = line_end(rest)?;
-        let size = hexadecimal_at(rest);
-        if size == 0 {
-            return trailer_end(body, place.saturating_add(line));
-        }
-        // the line end behind a chunk has two bytes
-        place = place
-            .saturating_add(line)
-            .saturating_add(size)
-            .saturating_add(2);
-    }
-    None
-}
-
-/// The place behind the empty line that ends the lines behind the last chunk, which begin at a place.
-fn trailer_end(body: &[u8], start: usize) -> Option<usize>
-    ensures { IfSome result (λ n. n ≤ length body.now) }
-{
-    let mut place = start;
-    for _ in 0..body.len() {
-        let line = line_end(body.get(place..)?)?;
-        place = place.saturating_add(line);
-        if line <= 2 {
-            return Some(place.min(body.len()));
-        }
-    }
-    None
-}
-
-/// How many bytes the first line has, with its end.
-fn line_end(bytes: &[u8]) -> Option<usize>
-    ensures { IfSome result (λ n. n ≤ length bytes.now) }
-{
-    for i in 0..bytes.len() {
-        if bytes[i] == b'\n' {
-            return Some(i + 1);
-        }
-    }
-    None
 }
 
 /// The size at the front of a chunk. Where there is none it is 0, and the reader of messages refuses the chunk.

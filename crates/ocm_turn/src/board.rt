@@ -114,6 +114,7 @@ impl<T: Object> Board<T> {
         requires own { (seat.old.table_id ≡ self.now.table.shared.table_id) × IsIdle seat.old.me.0 × (seat.old.me.1 ≡ []) }
         ensures own { (seat.new.table_id ≡ seat.old.table_id) × (seat.new.me.1 ≡ []) }
         ensures ticket { seat.new.me.0 ≡ ticketed seat.old.me.0 result }
+        ensures drawn { seat.old.me.0.drawn ≤ result }
         ensures limit { result ≤ self.now.limit }
     {
         for _ in rt.forever() {
@@ -227,6 +228,7 @@ impl<T: Object> Board<T> {
         ensures history { (history : List Entry) × T.stands result.0 seat.me.0.base history × T.legal (T.terms result.0) seat.me.0.base history
             × IsOlderPart seat.me.0.seen history × (result.1 ≡ length history) × StandIn history seat.me.0.mine }
         ensures order { InOrder seat.me.0.mine }
+        ensures drawn { seat.me.0.drawn ≤ result.1 }
         ensures limit { result.1 ≤ self.now.limit }
     {
         let calls = self.draw_last(rt, &mut seat);

@@ -123,6 +123,7 @@ impl<T: Object> Turnstile<T> {
         ensures history { (history : List Entry) × T.stands result.value pass.base history × T.legal pass.terms pass.base history
             × IsOlderPart pass.seen history × StandIn history pass.mine × (result.calls ≡ length history) }
         ensures order { InOrder pass.mine }
+        ensures drawn { pass.drawn ≤ result.calls }
         ensures limit { result.calls ≤ self.limit }
     {
         let Pass { seat, calls: _ } = pass;

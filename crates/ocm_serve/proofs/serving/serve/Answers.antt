@@ -1,10 +1,12 @@
 use Rattle.std.proofs.Common.{◌≡◌, ℕ, List, sym, ap, subst, ◌∙◌}
 use Rattle.ocm_dav.specs.declared.configs.Config.{Config}
 use Rattle.ocm_entry.specs.declared.entries.Entry.{Entry}
-use Rattle.ocm_serve.specs.Runs.{HasServed}
+use Rattle.ocm_journal.specs.Openings.{StaysAsItOpens}
+use Rattle.ocm_serve.specs.Runs.{HasServed, IsCounted, IsDiskFault, IsSaid}
 use Rattle.ocm_server.specs.declared.served.Served.{Served}
-use Rattle.ocm_serve.proofs.Told.{based, loaded-counted, loaded-said, loaded-sound, opened_same, unserved}
-use Rattle.ocm_store.specs.Opening.{IsOfArea}
+use Rattle.ocm_serve.proofs.Told.{based, loaded-counted, loaded-said, loaded-sound, opened_same, refused-counted, refused-said, sound-told, unserved}
+use Rattle.ocm_store.specs.Opening as stores
+use Rattle.ocm_store.specs.Opening.{IsOfArea, loading}
 use Rattle.ocm_store.specs.Stores.{area_of}
 use Rattle.ocm_serve.proofs.serving.serve.Goals as goal
 
@@ -35,3 +37,24 @@ returns-in-Ok-load-clause-unfailing g c = λ passes. loaded-sound c.serve_store.
 
 pub returns-clause-served : goal.returns-clause-served
 returns-clause-served g c = λ calls own has. absurd (unserved c.in-Err.fault calls own (subst (λ (r : Served). HasServed r calls own) c.refused.ensures has))
+
+pub returns-in-Ok-load-clause-kept : goal.returns-in-Ok-load-clause-kept
+returns-in-Ok-load-clause-kept g c = λ tells unserved. let names = c.in-Ok.ensures in
+    subst (λ (h : List ℕ). StaysAsItOpens h 536870656 (g.D.Disk.seen c.args.disk) (g.D.Disk.seen c.serve_store.result.1)) names.1
+    (subst (λ (seen : List ℕ). StaysAsItOpens c.in-Ok.host 536870656 (g.D.Disk.seen c.args.disk) seen) (sym (ap g.D.Disk.seen (c.serve_store.ensures.kept unserved))) (c.in-Ok-load.ensures.same_ok tells))
+
+pub returns-clause-kept : goal.returns-clause-kept
+returns-clause-kept g c = λ tells unserved. let names = c.in-Ok.ensures in
+    subst (λ (h : List ℕ). StaysAsItOpens h 536870656 (g.D.Disk.seen c.args.disk) (g.D.Disk.seen c.in-Err.disk)) names.1 (c.in-Err.ensures.same_err tells)
+
+pub returns-clause-said : goal.returns-clause-said
+returns-clause-said g c = λ tells. let says : (host : List ℕ) → _ = λ host. loading host 536870656 (g.D.Disk.seen c.args.disk) in
+    subst (λ (r : Served). IsSaid (says c.args.plan.now.host) r) (sym c.refused.ensures)
+    (refused-said _ c.in-Err.fault (subst (λ (h : List ℕ). stores.IsSaidBy (says h) c.in-Err.fault) c.in-Ok.ensures.1 (c.in-Err.ensures.says tells)))
+
+pub returns-clause-counted : goal.returns-clause-counted
+returns-clause-counted g c =
+    subst (λ (r : Served). IsCounted (g.D.Disk.count c.args.disk) (g.D.Disk.count c.in-Err.disk) r) (sym c.refused.ensures) (refused-counted _ _ c.in-Err.fault c.in-Err.ensures.cause)
+
+pub returns-clause-unfailing : goal.returns-clause-unfailing
+returns-clause-unfailing g c = λ passes is. sound-told c.in-Err.fault (c.in-Err.ensures.unfailing passes) (subst (λ (r : Served). IsDiskFault r) c.refused.ensures is)

@@ -7,3 +7,6 @@ returns-in-Ok-clause-served g c = λ calls own has. let s = c.in-Ok.ensures.serv
 
 pub returns-in-Ok-clause-unasked : goal.returns-in-Ok-clause-unasked
 returns-in-Ok-clause-unasked g c = λ unserved. absurd (c.ended-served.ensures.served unserved)
+
+pub returns-in-Ok-clause-kept : goal.returns-in-Ok-clause-kept
+returns-in-Ok-clause-kept g c = λ unserved. absurd (c.ended-served.ensures.served unserved)

@@ -1,11 +1,11 @@
-use Rattle.std.proofs.Common.{◌≡◌, ◌∙◌, ℕ, ◌<◌, List, [], length, map, get_or, sym, ap, refl, subst, arith, Option, Some, None}
-use Rattle.std.proofs.lemmas.List.{get_or-map}
+use Rattle.std.proofs.Common.{◌≡◌, ◌∙◌, ℕ, ◌<◌, List, [], length, map, get_or, ap, subst, arith}
+use Rattle.std.proofs.lemmas.List.{get_or-map, length-map}
 use Rattle.ocm_turn.specs.Passes.{Known, SameGround}
 use Rattle.ocm_turn.specs.declared.view.Call.{Call}
-use Rattle.ocm_server.specs.Objects.{beginner, begun, draw_at, mine_of, gathered}
+use Rattle.ocm_server.specs.Objects.{draw_at, mine_of, gathered}
 use Rattle.ocm_server.specs.Visits.{Work, work}
 use Rattle.ocm_server.specs.declared.workers.Worker.{Worker}
-use Rattle.ocm_server.proofs.Serving.{service, shift}
+use Rattle.ocm_server.proofs.Serving.{order_of, orders, service, shift}
 use Rattle.ocm_server.proofs.objects.serve_through.Goals as goal
 
 pub returns : goal.returns
@@ -15,14 +15,21 @@ returns g c =
     let mine : W → List Call = λ w. mine_of w.pass in
     let dealt : (i : ℕ) → i < length c.args.workers.now → i < length c.deal.new.workers = λ i below. let a = c.deal.auto.workers in omega (arith, below, a) in
     let served : (i : ℕ) → i < length c.args.workers.now → i < length c.serve_all-rounds.new.workers = λ i below. let a = c.deal.auto.workers in let b = c.serve_all-rounds.auto.workers in omega (arith, below, a, b) in
+    let many : length (map mine c.serve_all-rounds.new.workers) ≡ length c.args.workers.now = let n = length-map c.serve_all-rounds.new.workers mine in let a = c.deal.auto.workers in let b = c.serve_all-rounds.auto.workers in omega (arith, n, a, b) in
+    let began : (i : ℕ) → i < length c.serve_all-rounds.new.workers → i < length c.deal.new.workers = λ i below. let b = c.serve_all-rounds.auto.workers in omega (arith, below, b) in
     let same = c.deal.ensures.same in
     let h = c.close-shut.ensures.history in
     service g.T.Object.terms g.T.Object.stands g.T.Object.legal c.args.node c.args.pass c.gather.new.pass c.close-shut.result.value c.close-shut.result.calls c.calls-own.result _ (map mine c.serve_all-rounds.new.workers) h.0
     (subst (λ (p : Known g.row.T-Terms.Denot). SameGround p c.gather.new.pass) same c.gather.ensures.ground)
     c.requires.uncalled
-    (c.gather.ensures.mine ∙ ap (λ (p : Known g.row.T-Terms.Denot). gathered p.mine (map mine c.serve_all-rounds.new.workers)) same)
-    (λ i d below. shift g.L.Conn.Conn.sides c.args.config.now c.args.node c.args.pass (draw_at c.args.draw_key i) c.requires.uncalled
-    (view (get_or c.args.workers.now i d)) (view (get_or c.deal.new.workers i d)) (view (get_or c.serve_all-rounds.new.workers i d)) (view (get_or c.gather.new.workers i d))
-    (get_or (map mine c.serve_all-rounds.new.workers) i [])
-    (ap view (c.deal.ensures.dealt i d below)) (c.serve_all-rounds.ensures.each i d (dealt i below)) (ap view (c.gather.ensures.taken i d (served i below))) (get_or-map mine c.serve_all-rounds.new.workers i d [] (served i below)))
-    h.1 h.2 (c.close-shut.ensures.terms) h.5 h.4 c.calls-own.ensures.stand.1 c.calls-own.ensures.number
+    (c.gather.ensures.mine ∙ ap (λ (p : Known g.row.T-Terms.Denot). gathered p.mine (map mine c.serve_all-rounds.new.workers)) same) (
+      many,
+      λ i d below. shift g.L.Conn.Conn.sides c.args.config.now c.args.node c.args.pass (draw_at c.args.draw_key i) c.requires.uncalled
+          (view (get_or c.args.workers.now i d)) (view (get_or c.deal.new.workers i d)) (view (get_or c.serve_all-rounds.new.workers i d)) (view (get_or c.gather.new.workers i d))
+          (get_or (map mine c.serve_all-rounds.new.workers) i []) c.close-shut.result.calls
+          (ap view (c.deal.ensures.dealt i d below)) (c.serve_all-rounds.ensures.each i d (dealt i below)) (ap view (c.gather.ensures.taken i d (served i below))) (get_or-map mine c.serve_all-rounds.new.workers i d [] (served i below))
+          (let low = c.gather.ensures.drawn i d (served i below) in let high = c.close-shut.ensures.drawn in omega (arith, low, high)),
+    )
+    h.1 h.2 (c.close-shut.ensures.terms) h.5 h.4
+    (orders mine c.serve_all-rounds.new.workers (λ i d below. order_of g.L.Conn.Conn.sides c.args.config.now c.args.node (view (get_or c.deal.new.workers i d)) (view (get_or c.serve_all-rounds.new.workers i d)) (c.serve_all-rounds.ensures.each i d (began i below))))
+    c.calls-own.ensures.stand.1 c.calls-own.ensures.number

@@ -1,4 +1,4 @@
-use Rattle.std.proofs.Common.{◌≡◌, ◌∙◌, ap, get_or, Some, arith}
+use Rattle.std.proofs.Common.{◌∙◌, ap, get_or, Some, arith}
 use Rattle.ocm_turn.specs.Passes.{Known}
 use Rattle.ocm_server.specs.Objects.{beginner, draw_at}
 use Rattle.ocm_server.specs.declared.workers.Worker.{Worker}

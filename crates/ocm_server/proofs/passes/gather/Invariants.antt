@@ -1,6 +1,6 @@
-use Rattle.std.proofs.Common.{◌≡◌, None, drop, map}
+use Rattle.std.proofs.Common.{◌≡◌, ℕ, ◌<◌, ◌≤◌, get_or, None, drop, map}
 use Rattle.ocm_turn.specs.Passes.{BelongsTo, SameGround}
-use Rattle.ocm_server.specs.Objects.{gathered, mine_of}
+use Rattle.ocm_server.specs.Objects.{drawn_of, gathered, mine_of}
 use Rattle.ocm_server.proofs.Dealing.{ChangedBelow}
 use Rattle.ocm_server.proofs.passes.gather.Given as goal
 
@@ -11,4 +11,5 @@ invariant-loop-k g l = record {
   ground : SameGround l.initial.pass l.pass;
   taken : ChangedBelow (λ i w. record w { pass = None }) l.initial.workers l.workers l.k;
   mine : gathered l.pass.mine (map (λ w. mine_of w.pass) (drop l.k l.initial.workers)) ≡ gathered l.initial.pass.mine (map (λ w. mine_of w.pass) l.initial.workers);
+  drawn : (i : ℕ) (d : _) → i < l.k → drawn_of (get_or l.initial.workers i d).pass ≤ l.pass.drawn;
 }

@@ -1,4 +1,4 @@
-use Rattle.std.proofs.Common.{rules, arith}
+use Rattle.std.proofs.Common.{rules}
 use Rattle.ocm_server.proofs.workers.serve_all.Goals as goal
 
 pub returns-clause-each : goal.returns-clause-each

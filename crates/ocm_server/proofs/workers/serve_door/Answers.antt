@@ -1,15 +1,15 @@
-use Rattle.std.proofs.Common.{arith, ◌≡◌}
+use Rattle.std.proofs.Common.{arith, refl, ◌≡◌, ◌∙◌}
 use Rattle.std.specs.Prelude.{option_map}
 use Rattle.ocm_server.specs.Doors.{given, over, IsOut}
 use Rattle.ocm_server.specs.Visits.{desk}
-use Rattle.ocm_server.proofs.Visiting.{serves_nothing, serves_visit, serves_end, serves_fault, some_of, none_of}
+use Rattle.ocm_server.proofs.Visiting.{serves_nothing, serves_visit, serves_end, serves_fault, ok_of, some_of, none_of}
 use Rattle.ocm_server.proofs.workers.serve_door.Goals as goal
 
 pub loop-init : goal.loop-init
 loop-init g c = record {
   own = c.requires.own;
   serves = serves_nothing g.L.Conn.Conn.sides c.args.config.now c.args.node.now.limit (g.L.Door.told c.args.door.now) (desk c.args.draw.now (g.K.Clock.given c.args.clock.now) (g.N.Dial.exchanges c.args.dial.now) c.args.pass.now);
-  never_falls = omega arith;
+  unfailed = refl;
   dial_never_falls = omega arith;
 }
 
@@ -22,7 +22,7 @@ loop-preserved g c = record {
   serves = serves_visit g.L.Conn.Conn.sides c.args.config.now c.args.node.now.limit (g.L.Door.told c.args.door.now) (g.L.Door.told c.loop.door) (g.L.Door.told c.next-in-loop.new.self) (g.L.Door.told c.serve_visit.new.door) c.in-Ok-Some.conn
       (desk c.args.draw.now (g.K.Clock.given c.args.clock.now) (g.N.Dial.exchanges c.args.dial.now) c.args.pass.now) (desk c.loop.draw (g.K.Clock.given c.loop.clock) (g.N.Dial.exchanges c.loop.dial) c.loop.pass) (desk c.serve_visit.new.draw (g.K.Clock.given c.serve_visit.new.clock) (g.N.Dial.exchanges c.serve_visit.new.dial) c.serve_visit.new.pass) c.loop.invariant.serves
       (some_of (λ conn. (g.L.Door.told c.next-in-loop.new.self) ≡ option_map (given conn) (g.L.Door.told c.loop.door)) c.next-in-loop.result c.in-Ok-Some.field-0 c.in-Ok-Some.conn c.next-in-loop.ensures.given c.in-Ok-Some.is c.in-Ok-Some.field-0-is) c.serve_visit.ensures.comes;
-  never_falls = let low = c.loop.invariant.never_falls in let more = c.next-in-loop.ensures.never_falls in let same = c.serve_visit.ensures.faults in omega (arith, low, more, same);
+  unfailed = c.serve_visit.ensures.faults ∙ (ok_of ((g.L.Door.faults c.next-in-loop.new.self) ≡ (g.L.Door.faults c.loop.door)) c.next-in-loop.result c.in-Ok-Some.field-0 c.next-in-loop.ensures.kept c.in-Ok-Some.is ∙ c.loop.invariant.unfailed);
   dial_never_falls = let low = c.loop.invariant.dial_never_falls in let more = c.serve_visit.ensures.dial_never_falls in omega (arith, low, more);
 }
 
@@ -35,3 +35,6 @@ pub returns-in-Err-clause-serves : goal.returns-in-Err-clause-serves
 returns-in-Err-clause-serves g c =
     serves_fault g.L.Conn.Conn.sides c.args.config.now c.args.node.now.limit (g.L.Door.told c.args.door.now) (g.L.Door.told c.loop.door) (g.L.Door.told c.next-in-loop.new.self) (desk c.args.draw.now (g.K.Clock.given c.args.clock.now) (g.N.Dial.exchanges c.args.dial.now) c.args.pass.now) (desk c.loop.draw (g.K.Clock.given c.loop.clock) (g.N.Dial.exchanges c.loop.dial) c.loop.pass) c.loop.invariant.serves
     c.in-Err.ensures.err
+
+pub returns-in-Ok-None-clause-unfailed : goal.returns-in-Ok-None-clause-unfailed
+returns-in-Ok-None-clause-unfailed g c = λ _. ok_of ((g.L.Door.faults c.next-in-loop.new.self) ≡ (g.L.Door.faults c.loop.door)) c.next-in-loop.result c.in-Ok-None.field-0 c.next-in-loop.ensures.kept c.in-Ok-None.is ∙ c.loop.invariant.unfailed

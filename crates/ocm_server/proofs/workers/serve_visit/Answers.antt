@@ -15,5 +15,7 @@ returns-clause-comes g c = record {
     draw_waits = refl;
     clock_waits = refl;
     rounded = c.pump_round-pumped.ensures.round;
+    spent = c.pump_round-pumped.ensures.spent;
+    below = c.pump_round-pumped.ensures.below;
   };
 }

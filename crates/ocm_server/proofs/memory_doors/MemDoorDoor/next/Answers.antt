@@ -1,5 +1,5 @@
-use Rattle.std.proofs.Common.{◌≡◌, ◌∙◌, ◌∷◌, ◌+◌, drop, reverse, take, sym, ap, subst, arith}
-use Rattle.ocm_server.specs.Doors.{Doorway, DoorState, given}
+use Rattle.std.proofs.Common.{◌≡◌, ◌∙◌, ◌+◌, drop, reverse, take, sym, ap, subst, arith}
+use Rattle.ocm_server.specs.Doors.{DoorState, given}
 use Rattle.ocm_server.proofs.Giving.{first_of_rest, next}
 use Rattle.ocm_server.proofs.memory_doors.MemDoorDoor.next.Goals as goal
 
