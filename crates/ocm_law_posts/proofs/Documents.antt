@@ -83,7 +83,7 @@ own-authority : (port : Option ℕ) (name host : List ℕ) → host ≡ name ++ 
 own-authority None name host spelled = sym (spelled ∙ append-nil name)
 own-authority (Some n) name host spelled = append_assoc name (58 ∷ []) (decimal n) ∙ sym spelled
 
-own-host : (host : List ℕ) (p : HostParts host) (h : Host (List ℕ)) → is_host host ≡ true → urls.host_text h ≡ p.name → host_in (address_at p.port h) ≡ Some host
+pub own-host : (host : List ℕ) (p : HostParts host) (h : Host (List ℕ)) → is_host host ≡ true → urls.host_text h ≡ p.name → host_in (address_at p.port h) ≡ Some host
 own-host host p h is same =
     let some : nonempty_host (address_at p.port h) ≡ Some h = ap (λ b. cond (not b) (Some h) None) (some-host h p.name same (name-some p.name p.is_name)) in
     let named : authority (urls.host_text h) p.port ≡ host = ap (λ n. authority n p.port) same ∙ own-authority p.port p.name host p.spelled in

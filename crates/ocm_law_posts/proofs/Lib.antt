@@ -1,4 +1,5 @@
 pub mod Answers
+pub mod Counted
 pub mod Documents
 pub mod EndPoints
 pub mod Fitting

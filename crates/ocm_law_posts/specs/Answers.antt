@@ -1,5 +1,5 @@
 -- What the sender of a letter is told is the answer that is under way.
-use Rattle.std.specs.Prelude.{◌≡◌, ℕ, ◌^◌, ◌<◌, Bool, true, false, not, List, [], codes, Ok, IsUtf8}
+use Rattle.std.specs.Prelude.{◌≡◌, ℕ, ◌^◌, ◌<◌, Bool, true, false, not, List, [], Ok, IsUtf8}
 use Rattle.ocm_types.specs.Texts.{is_name}
 use Rattle.ocm_types.specs.declared.letters.Letter.{Letter}
 use Rattle.ocm_types.specs.declared.letters.Letter.TheVariants as letters
@@ -8,14 +8,12 @@ use Rattle.ocm_entry.specs.declared.replies.Reply.TheVariants as replies
 use Rattle.ocm_http.specs.Frames.{Given}
 use Rattle.ocm_http.specs.declared.messages.Message.{Message}
 use Rattle.ocm_pages.specs.Pages.{page_of}
-use Rattle.ocm_dav.specs.Shapes.{shape_of}
-use Rattle.ocm_pages.specs.declared.shapes.Allow.TheVariants.{Post}
-use Rattle.ocm_pages.specs.declared.shapes.Shape.{Shape}
 use Rattle.ocm_pump.specs.Delivery.{answer_in, asks_share}
 use Rattle.ocm_pump.specs.Replies.{IsReply}
 use Rattle.ocm_entry.specs.declared.entries.Entry.{Entry}
 use Rattle.ocm_law_sessions.specs.Sessions.{IsReply as IsSessionReply}
 use Rattle.ocm_law_world.specs.Deliveries.{letter_ask, delivered_status, delivered_id}
+use Rattle.ocm_law_posts.specs.Posts.{post_shape}
 
 -- whether a letter is an offer
 abbrev pub is_offer : Letter → Bool
@@ -42,10 +40,6 @@ IsSound (replies.Child id) = id < 2 ^ 32
 IsSound (replies.DiskFault count) = count < 2 ^ 64
 IsSound (replies.Stopped count) = count < 2 ^ 64
 IsSound _ = Unit {0}
-
--- how a POST that closes is answered
-abbrev pub post_shape : Shape
-post_shape = shape_of (codes "POST") true Post
 
 -- bytes are one reply, by which the sender of a letter is told the status and the id of this reply
 pub record Tells (letter : Letter) (reply : Reply) (bytes : List ℕ) : Type 0 where

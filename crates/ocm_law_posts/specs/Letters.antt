@@ -6,7 +6,11 @@ use Rattle.ocm_types.specs.declared.letters.Letter.{Letter}
 use Rattle.ocm_types.specs.declared.letters.Letter.TheVariants as letters
 use Rattle.ocm_types.specs.declared.letters.Notice.{Notice}
 use Rattle.ocm_types.specs.declared.letters.Notice.TheVariants as notices
+use Rattle.ocm_entry.specs.declared.entries.Entry.{Entry}
 use Rattle.ocm_records.specs.Sound.{IsOffer, IsNotice, is_numbered}
+use Rattle.ocm_rules.specs.declared.rows.Message.{Message}
+use Rattle.ocm_rules.specs.Messages.{out}
+use Rattle.ocm_rules.specs.Numbers.{at_number}
 
 -- the user's name of an address that may be absent
 abbrev pub user_if : Option Address → List (List ℕ)
@@ -42,3 +46,7 @@ pub record IsLetter (letter : Letter) : Type 0 where
   pub parts : HasParts letter
   pub utf8 : AllByRecursion IsUtf8 (texts letter)
   pub counted : IsCounted letter
+
+-- the messages of a server are so: its own changes of permissions are counted
+abbrev pub SentAreCounted : Type 0
+SentAreCounted = (host : List ℕ) (g : List Entry) (number : ℕ) (message : Message) → at_number (out host g) number ≡ Some message → IsCounted message.letter

@@ -3,3 +3,4 @@ pub mod Documents
 pub mod Letters
 pub mod Names
 pub mod Posts
+pub mod Wrong

@@ -14,8 +14,10 @@ use Rattle.ocm_records.specs.Rows.{record_of}
 use Rattle.ocm_records.specs.Offers.{offer}
 use Rattle.ocm_records.specs.Notices.{notice}
 use Rattle.ocm_records.specs.declared.values.Discovery.{Discovery}
+use Rattle.ocm_pages.specs.declared.shapes.Allow.TheVariants.{Post}
 use Rattle.ocm_pages.specs.declared.shapes.Shape.{Shape}
 use Rattle.ocm_dav.specs.Routes.{wanted_of}
+use Rattle.ocm_dav.specs.Shapes.{shape_of}
 use Rattle.ocm_dav.specs.declared.configs.Config.{Config}
 use Rattle.ocm_dav.specs.declared.wants.Wanted.TheVariants as wanted
 use Rattle.ocm_pump.specs.Delivery.{letter_bytes, letter_end, post_request}
@@ -23,6 +25,7 @@ use Rattle.ocm_pump.specs.Sites.{site_of}
 use Rattle.ocm_pump.specs.declared.sites.Site.{Site}
 use Rattle.ocm_law_world.specs.Deliveries.{letter_ask}
 use Rattle.ocm_law_posts.specs.Letters.{IsLetter}
+use Rattle.ocm_law_posts.specs.Names.{StandsInUrls, name_of}
 
 -- ---- the body
 
@@ -61,11 +64,13 @@ PostsAreMessages = (site : Site) (letter : Letter) → IsOurs site → IsLetter 
 
 -- ---- what is asked
 
--- a message asks a server this, with these drawn bytes, and its connection closes behind the reply
-pub record Asks (config : Config) (message : Message) (fresh : List ℕ) (ask : Ask) : Type 0 where
-  pub shape : Shape
-  pub wanted : wanted_of config message fresh ≡ wanted.Ask ask shape
-  pub closing : shape.closing ≡ true
+-- how a POST is answered behind which its connection closes
+abbrev pub post_shape : Shape
+post_shape = shape_of (codes "POST") true Post
+
+-- a message asks a server this, with these drawn bytes, and is answered as such a POST is
+abbrev pub Asks : Config → Message → List ℕ → Ask → Type 0
+Asks config message fresh ask = wanted_of config message fresh ≡ wanted.Ask ask post_shape
 
 -- a letter in a POST, which closes, to where letters of its sort are taken
 abbrev pub letter_message : Letter → List Field → Message
@@ -105,3 +110,9 @@ PostsAreDeliveries =
     (target : List ℕ) (document : Discovery) (site : Site) (letter : Letter) (config : Config) (fresh : List ℕ)
     → IsTrue (is_host target) → document.end_point ≡ end_point target → site_of document ≡ Some site → IsLetter letter
     → AreAsk config (post_request site letter) fresh (letter_ask letter fresh)
+
+-- Such a site is at the host of that endPoint, where the URL Standard takes the host's name as it stands.
+abbrev pub PostsGoThere : Type 0
+PostsGoThere =
+    (target : List ℕ) (document : Discovery) (site : Site)
+    → IsTrue (is_host target) → StandsInUrls (name_of target) → document.end_point ≡ end_point target → site_of document ≡ Some site → site.host ≡ target

@@ -3,8 +3,9 @@
 
 ghost use Rattle.ocm_law_posts.specs.Answers.{AnswersAreTold, RepliesAnswer};
 ghost use Rattle.ocm_law_posts.specs.Documents.{DocumentsAreFound, DocumentsLeadHome};
+ghost use Rattle.ocm_law_posts.specs.Letters.{SentAreCounted};
 ghost use Rattle.ocm_law_posts.specs.Names.{AddressesStand, PlainNamesStand};
-ghost use Rattle.ocm_law_posts.specs.Posts.{EndPointsAreOurs, LettersAreReadBack, PostsAreDeliveries, PostsAreMessages, RoutesAreLetters};
+ghost use Rattle.ocm_law_posts.specs.Posts.{EndPointsAreOurs, LettersAreReadBack, PostsAreDeliveries, PostsAreMessages, PostsGoThere, RoutesAreLetters};
 
 /// The record of a letter has at most 65,536 bytes, the most that a server takes, and is read as that letter.
 pub fn letters_are_read_back()
@@ -29,12 +30,20 @@ pub fn end_points_are_ours()
 
 /// A letter that is posted to the site of a usable document, whose endPoint is `http://`, a host and `/ocm`, is one
 /// message. A server of this program is asked by it what the letter says, and closes the connection behind its reply.
+/// The post goes to that host, where the URL Standard takes the host's name as it stands.
 pub fn posts_are_deliveries()
-    ensures { PostsAreDeliveries }
+    ensures asked { PostsAreDeliveries }
+    ensures there { PostsGoThere }
 {}
 
-/// The page of a reply to a letter is one reply to its sender, which is told by it the status and the id that are the
-/// answer to the letter.
+/// Each message of a server tells changes of permissions that are counted from 1, as `letters_may_be_sent` asks.
+pub fn messages_are_counted()
+    ensures { SentAreCounted }
+{}
+
+/// The page of a reply to a letter, as a POST is answered, is one reply to its sender, which is told by it the status
+/// and the id that are the answer to the letter. A server is told the time before a letter; where it can't keep that,
+/// the page is of the reply to the tick, 503, 507 or 500, and the letter is not asked: such a status settles nothing.
 pub fn answers_are_told()
     ensures { AnswersAreTold }
 {}

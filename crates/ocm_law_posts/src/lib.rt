@@ -5,5 +5,6 @@
 
 pub mod laws;
 mod letters;
+pub mod wrong;
 
 pub use letters::letters_may_be_sent;

@@ -6,17 +6,17 @@ use Rattle.ocm_entry.specs.declared.asks.Ask.{Ask}
 use Rattle.ocm_entry.specs.declared.replies.Reply.{Reply}
 use Rattle.ocm_rules.specs.Numbers.{same_text}
 use Rattle.ocm_law_sessions.proofs.Replying.{session-legal}
-use Rattle.ocm_law_world.specs.World.{Answer, IsReached, World, changed, is_settlement, new_session, reopened, settlement_by, with_call}
+use Rattle.ocm_law_world.specs.World.{Answer, World, changed, is_settlement, new_session, reopened, settlement_by, with_call}
 use Rattle.ocm_law_world.specs.World.Flight.{Nothing}
 use Rattle.ocm_law_world.specs.World.Run.{Stays, Goes_on}
 use Rattle.ocm_law_world.specs.World.Step.{Begins, Asks, Comes, Crashes}
-use Rattle.ocm_law_world.proofs.Steps.{sessions-reached}
+use Rattle.ocm_law_world.proofs.Steps.{alone-ours, alone-reached, sessions-reached}
 use Rattle.ocm_law_world.proofs.Texts.{text-equal, text-same}
 use Rattle.ocm_world.specs.Servers.{Server, area, asked_at, crashed, new_server, reply_of, server_after, server_at, step_at}
 use Rattle.ocm_law_runs.specs.Standing.{Stands, session_of}
 use Rattle.ocm_law_runs.proofs.Finding.{named-at, text-other}
 use Rattle.ocm_law_runs.proofs.Replies.{crash-next, reply-legal}
-use Rattle.ocm_law_runs.proofs.Steps.{Reaches, With, stands-nowhere, stays, with-changed, with-server, with-stands}
+use Rattle.ocm_law_runs.proofs.Steps.{IsAlone, Reaches, With, stands-nowhere, stays, with-changed, with-server, with-stands}
 
 -- ---- asks
 
@@ -59,14 +59,14 @@ comes-run w servers a older wanting under stands = by_case (server_at servers a.
 
 -- ---- crashes
 
-pub crashes-run : (w : World) (servers : List Server) (host : List ℕ) (keeps : Bool) → IsReached w → Stands w servers → Reaches w (λ later. Stands later (step_at (crashed keeps) servers host))
+pub crashes-run : (w : World) (servers : List Server) (host : List ℕ) (keeps : Bool) → IsAlone w → Stands w servers → Reaches w (λ later. Stands later (step_at (crashed keeps) servers host))
 crashes-run w servers host keeps reached stands = by_case (server_at servers host) refl
   where
     by_case : (o : Option Server) → server_at servers host ≡ o → Reaches w (λ later. Stands later (step_at (crashed keeps) servers host))
     by_case None none = stays _ w (stands-nowhere w servers host (crashed keeps) (λ s own. own) none stands)
     by_case (Some server) there =
         let with = with-server w servers host server stands there in
-        let legal = session-legal host area server.base server.calls (sessions-reached w reached host (session_of server) with.here) in
+        let legal = session-legal host area server.base server.calls (sessions-reached w (alone-reached w reached) host (session_of server) with.here) in
         let next = (crashed keeps server).base in
         let later : World = changed w host (reopened (session_of server) next) w.answers in (
           later,
@@ -77,8 +77,8 @@ crashes-run w servers host keeps reached stands = by_case (server_at servers hos
 -- ---- new servers
 
 -- a server begins where no other has its host; else the first stays the one of its host
-pub named-run : (w : World) (servers : List Server) (host : List ℕ) → Stands w servers → Reaches w (λ later. Stands later (servers ++ new_server host ∷ []))
-named-run w servers host stands = by_case (server_at servers host) refl
+pub named-run : (w : World) (servers : List Server) (host : List ℕ) → IsAlone w → Stands w servers → Reaches w (λ later. Stands later (servers ++ new_server host ∷ []))
+named-run w servers host reached stands = by_case (server_at servers host) refl
   where
     found : Option Server → Bool → Option Server
     found o b = option_or o (if b then Some (new_server host) else None)
@@ -94,7 +94,7 @@ named-run w servers host stands = by_case (server_at servers host) refl
     by_case : (o : Option Server) → server_at servers host ≡ o → Reaches w (λ later. Stands later (servers ++ new_server host ∷ []))
     by_case None none =
         let later : World = changed w host (new_session area) w.answers in
-        (later, Goes_on w later Stays (Begins host area (stands host ∙ ap (option_map session_of) none)), λ other. by_test other (same_text other host) refl)
+        (later, Goes_on w later Stays (Begins host area (alone-ours w reached host) (stands host ∙ ap (option_map session_of) none)), λ other. by_test other (same_text other host) refl)
       where
         by_test : (other : List ℕ) (b : Bool) → same_text other host ≡ b → (if b then Some (new_session area) else w.session other) ≡ option_map session_of (server_at (servers ++ new_server host ∷ []) other)
         by_test other true e =

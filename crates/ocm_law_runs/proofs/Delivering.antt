@@ -17,7 +17,7 @@ use Rattle.ocm_rules.specs.Numbers.{at_number}
 use Rattle.ocm_rules.specs.Settlements.{is_settled}
 use Rattle.ocm_law_sessions.specs.Sessions.{IsReply}
 use Rattle.ocm_law_world.specs.Deliveries as sent
-use Rattle.ocm_law_world.specs.World.{Answer, IsReached, Step, World, answer_to, changed, empty, settlement_by, with_call}
+use Rattle.ocm_law_world.specs.World.{Answer, Step, World, answer_to, changed, empty, settlement_by, with_call}
 use Rattle.ocm_law_world.specs.World.Run.{Stays, Goes_on}
 use Rattle.ocm_law_world.specs.World.Step.{Delivers}
 use Rattle.ocm_world.specs.Asked.{letter_ask}
@@ -27,7 +27,7 @@ use Rattle.ocm_law_runs.specs.Standing.{Stands, session_of}
 use Rattle.ocm_law_runs.proofs.Asking.{asked-run, comes-run}
 use Rattle.ocm_law_runs.proofs.Replies.{reply-legal}
 use Rattle.ocm_law_runs.proofs.Sending.{HasSent, HasSentAll, all-sent-on, told-sent}
-use Rattle.ocm_law_runs.proofs.Steps.{Reaches, With, reaches-on, run-on, stays, with-changed, with-server, with-stands}
+use Rattle.ocm_law_runs.proofs.Steps.{IsAlone, Reaches, With, reaches-on, run-on, stays, with-changed, with-server, with-stands}
 
 -- ---- one message
 
@@ -101,7 +101,7 @@ deliver-run w servers wanting line sender n fresh lost stands = by_case (server_
 
 -- ---- all that are due
 
-all-delivered-run : (w : World) (servers : List Server) (wanting : List Bool) (line : ℕ) (sender fresh : List ℕ) (place : ℕ) (messages : List Numbered) → IsReached w → HasSentAll w sender messages → Stands w servers
+all-delivered-run : (w : World) (servers : List Server) (wanting : List Bool) (line : ℕ) (sender fresh : List ℕ) (place : ℕ) (messages : List Numbered) → IsAlone w → HasSentAll w sender messages → Stands w servers
     → Reaches w (λ later. Stands later (all_delivered wanting servers line sender fresh place messages).world)
 all-delivered-run w servers wanting line sender fresh place [] reached sent stands = stays _ w stands
 all-delivered-run w servers wanting line sender fresh place (m ∷ messages) reached ((n, message, same, one), rest) stands =
@@ -113,12 +113,12 @@ all-delivered-run w servers wanting line sender fresh place (m ∷ messages) rea
     all-delivered-run mid first (others_wanting (others_wanting wanting)) line sender fresh (place + 1) messages (run-on empty w mid reached run) (all-sent-on w mid sender messages reached run rest) at)
 
 -- what is due is delivered
-due-run : (w : World) (servers : List Server) (wanting : List Bool) (line : ℕ) (sender fresh : List ℕ) (messages : List Numbered) → IsReached w → HasSentAll w sender messages → Stands w servers
+due-run : (w : World) (servers : List Server) (wanting : List Bool) (line : ℕ) (sender fresh : List ℕ) (messages : List Numbered) → IsAlone w → HasSentAll w sender messages → Stands w servers
     → Reaches w (λ later. Stands later (pumped wanting servers line sender fresh (replies.Due messages)).world)
 due-run w servers wanting line sender fresh [] reached sent stands = stays _ w stands
 due-run w servers wanting line sender fresh (m ∷ messages) reached sent stands = all-delivered-run w servers wanting line sender fresh 0 (m ∷ messages) reached sent stands
 
-pub pump-run : (w : World) (servers : List Server) (wanting : List Bool) (line : ℕ) (sender fresh : List ℕ) → IsReached w → Stands w servers
+pub pump-run : (w : World) (servers : List Server) (wanting : List Bool) (line : ℕ) (sender fresh : List ℕ) → IsAlone w → Stands w servers
     → Reaches w (λ later. Stands later (pump wanting servers line sender fresh).world)
 pump-run w servers wanting line sender fresh reached stands = by_case (server_at servers sender) refl
   where

@@ -2,7 +2,7 @@
 use Rattle.std.proofs.Common.{◌≡◌, ℕ, ◌+◌, List, [], ◌∷◌, Bool, false, refl, sym, subst, Option, Some, None, Ok, Err}
 use Rattle.ocm_entry.specs.declared.asks.Ask.{Ask}
 use Rattle.ocm_entry.specs.declared.asks.Ask.TheVariants.{Tick}
-use Rattle.ocm_law_world.specs.World.{IsReached, World, empty, is_settlement}
+use Rattle.ocm_law_world.specs.World.{World, empty, is_settlement}
 use Rattle.ocm_script.specs.declared.events.Event.{Event}
 use Rattle.ocm_script.specs.declared.events.Event.TheVariants.{Quiet, Node, User, Local, Dav, Put, Carry, Clock, Offer, Notice, Raw, Deliver, Pump, Fuse, Crash}
 use Rattle.ocm_world.specs.Deliveries as lines
@@ -13,7 +13,7 @@ use Rattle.ocm_world.specs.Transcript.{IsRun, Talked, Transcript, plain, run}
 use Rattle.ocm_law_runs.specs.Standing.{Stands}
 use Rattle.ocm_law_runs.proofs.Asking.{asked-run, crashes-run, named-run}
 use Rattle.ocm_law_runs.proofs.Delivering.{deliver-run, pump-run}
-use Rattle.ocm_law_runs.proofs.Steps.{Reaches, reaches-on, run-on, stands-same, stays, with-server, with-stands}
+use Rattle.ocm_law_runs.proofs.Steps.{IsAlone, Reaches, reaches-on, run-on, stands-same, stays, with-server, with-stands}
 use Rattle.ocm_law_runs.proofs.Talking.{says-run}
 
 -- ---- lines that ask
@@ -41,9 +41,9 @@ talked-run w servers number host fresh bytes (Some server) line there stands (af
 
 -- ---- one line
 
-made-run : (w : World) (servers : List Server) (number : ℕ) (wanting : List Bool) (e : Event) → IsReached w → Stands w servers → Reaches w (λ later. Stands later (run wanting servers number e).world)
+made-run : (w : World) (servers : List Server) (number : ℕ) (wanting : List Bool) (e : Event) → IsAlone w → Stands w servers → Reaches w (λ later. Stands later (run wanting servers number e).world)
 made-run w servers number wanting Quiet reached stands = plain-run w servers (next_wanting wanting) number Quiet None None tt stands
-made-run w servers number wanting (Node host) reached stands = named-run w servers host stands
+made-run w servers number wanting (Node host) reached stands = named-run w servers host reached stands
 made-run w servers number wanting (User host name fresh) reached stands = asked-run w servers host (next_wanting wanting) _ refl stands
 made-run w servers number wanting (Local host key cmd) reached stands = asked-run w servers host (next_wanting wanting) _ refl stands
 made-run w servers number wanting (Dav host secret method path) reached stands = asked-run w servers host (next_wanting wanting) _ refl stands
@@ -63,13 +63,13 @@ made-run w servers number wanting (Fuse host calls) reached stands =
     stays _ w (stands-same w servers host (λ server. record server { fuse = Some calls }) (λ server own. own) (λ server. refl) stands)
 made-run w servers number wanting (Crash host left) reached stands = crashes-run w servers host (next_wanting wanting) reached stands
 
-pub line-run : (w : World) (servers : List Server) (number : ℕ) (e : Event) (line : lines.Run) → IsReached w → Stands w servers → IsRun servers number e line → Reaches w (λ later. Stands later line.world)
+pub line-run : (w : World) (servers : List Server) (number : ℕ) (e : Event) (line : lines.Run) → IsAlone w → Stands w servers → IsRun servers number e line → Reaches w (λ later. Stands later line.world)
 line-run w servers number (Raw host fresh bytes) line reached stands talked = talked-run w servers number host fresh bytes (server_at servers host) line refl stands talked
 line-run w servers number e line reached stands (wanting, same) = subst (λ (l : lines.Run). Reaches w (λ later. Stands later l.world)) (sym same) (made-run w servers number wanting e reached stands)
 
 -- ---- all lines
 
-pub transcript-run : (w : World) (servers final : List Server) (number : ℕ) (events : List Event) (text : List ℕ) → IsReached w → Stands w servers → Transcript servers number events text final
+pub transcript-run : (w : World) (servers final : List Server) (number : ℕ) (events : List Event) (text : List ℕ) → IsAlone w → Stands w servers → Transcript servers number events text final
     → Reaches w (λ later. Stands later final)
 transcript-run w servers final number [] text reached stands (none, same) = stays _ w (subst (Stands w) (sym same) stands)
 transcript-run w servers final number (e ∷ events) text reached stands (line, rest, is, printed, more) =

@@ -5,9 +5,10 @@ use Rattle.ocm_types.specs.declared.letters.Numbered.{Numbered}
 use Rattle.ocm_rules.specs.declared.rows.Message.{Message}
 use Rattle.ocm_rules.specs.Messages.{as_sent, numbered_from, out}
 use Rattle.ocm_rules.specs.Numbers.{at_number}
-use Rattle.ocm_law_world.specs.World.{IsReached, Run, Session, World, kept_at}
+use Rattle.ocm_law_world.specs.World.{Run, Session, World, kept_at}
 use Rattle.ocm_law_world.proofs.Growth.{HasMessage, message-lasts}
-use Rattle.ocm_law_world.proofs.Steps.{lasts-run, sessions-reached}
+use Rattle.ocm_law_world.proofs.Steps.{alone-reached, lasts-run, sessions-reached}
+use Rattle.ocm_law_runs.proofs.Steps.{IsAlone}
 
 -- ---- sent messages
 
@@ -15,16 +16,16 @@ use Rattle.ocm_law_world.proofs.Steps.{lasts-run, sessions-reached}
 abbrev pub HasSent : World → List ℕ → ℕ → Message → Type 0
 HasSent w host number message = (s : Session) × (w.session host ≡ Some s) × (at_number (out host (kept_at host s)) number ≡ Some message)
 
-pub sent-on : (w later : World) (host : List ℕ) (number : ℕ) (message : Message) → IsReached w → Run w later → HasSent w host number message → HasSent later host number message
+pub sent-on : (w later : World) (host : List ℕ) (number : ℕ) (message : Message) → IsAlone w → Run w later → HasSent w host number message → HasSent later host number message
 sent-on w later host number message reached run sent =
-    lasts-run (HasMessage number message) w later host (message-lasts number message) (sessions-reached w reached) run sent
+    lasts-run (HasMessage number message) w later host (message-lasts number message) (sessions-reached w (alone-reached w reached)) run sent
 
 -- the host has sent each of these messages
 abbrev pub HasSentAll : World → List ℕ → List Numbered → Type 0
 HasSentAll w host [] = Unit {0}
 HasSentAll w host (m ∷ more) = ((number : ℕ) × (message : Message) × (m ≡ as_sent (number, message)) × HasSent w host number message) × HasSentAll w host more
 
-pub all-sent-on : (w later : World) (host : List ℕ) (messages : List Numbered) → IsReached w → Run w later → HasSentAll w host messages → HasSentAll later host messages
+pub all-sent-on : (w later : World) (host : List ℕ) (messages : List Numbered) → IsAlone w → Run w later → HasSentAll w host messages → HasSentAll later host messages
 all-sent-on w later host [] reached run sent = tt
 all-sent-on w later host (m ∷ more) reached run ((number, message, same, sent), rest) =
     ((number, message, same, sent-on w later host number message reached run sent), all-sent-on w later host more reached run rest)

@@ -2,7 +2,7 @@
 use Rattle.std.proofs.Common.{◌≡◌, ℕ, List, Bool, true, false, refl, sym, ap, ◌∙◌, subst}
 use Rattle.std.specs.Prelude.{Option, Some, None, option_map, if◌then◌else◌}
 use Rattle.ocm_rules.specs.Numbers.{same_text}
-use Rattle.ocm_law_world.specs.World.{Answer, Run, World, changed}
+use Rattle.ocm_law_world.specs.World.{Answer, Run, World, changed, empty}
 use Rattle.ocm_law_world.specs.World.Run.{Stays, Goes_on}
 use Rattle.ocm_law_world.proofs.Texts.{text-equal, text-same}
 use Rattle.ocm_world.specs.Servers.{Server, server_at, step_at}
@@ -10,6 +10,10 @@ use Rattle.ocm_law_runs.specs.Standing.{Stands, session_of}
 use Rattle.ocm_law_runs.proofs.Finding.{Keeps, has-host, stepped-here, stepped-other}
 
 -- ---- runs
+
+-- a run reaches a world, where no host is foreign
+abbrev pub IsAlone : World → Type 0
+IsAlone w = Run empty w
 
 -- a run leads from a world to one with a property
 abbrev pub Reaches : World → (World → Type 0) → Type 0

@@ -28,11 +28,11 @@ use Rattle.ocm_law_sessions.proofs.Replying.{reply-given}
 use Rattle.ocm_law_world.specs.Ends as ends
 use Rattle.ocm_law_world.specs.Guests as guests
 use Rattle.ocm_law_world.specs.World as worlds
-use Rattle.ocm_law_world.specs.World.{IsReached, Run, Session, World, empty}
+use Rattle.ocm_law_world.specs.World.{Run, Session, World, empty}
 use Rattle.ocm_law_world.specs.World.Run.{Stays}
 use Rattle.ocm_law_world.proofs.Laws.{ended-later, refused-carry, refused-read}
 use Rattle.ocm_law_world.proofs.Reached.{guest}
-use Rattle.ocm_law_world.proofs.Steps.{sessions-reached}
+use Rattle.ocm_law_world.proofs.Steps.{alone-ours, alone-reached, sessions-reached}
 use Rattle.ocm_transcript.specs.Texts.{line_text, reply_lines}
 use Rattle.ocm_script.specs.Events.{bytes_of}
 use Rattle.ocm_script.specs.declared.events.Event.{Event}
@@ -47,10 +47,10 @@ use Rattle.ocm_law_runs.proofs.Finding.{has-host, stepped-here}
 use Rattle.ocm_law_runs.proofs.Lines.{line-run, transcript-run}
 use Rattle.ocm_law_runs.proofs.Printing.{end-done, no_memory-text, unauthorized-text, unshare-reply}
 use Rattle.ocm_law_runs.proofs.Replies.{reply-legal}
-use Rattle.ocm_law_runs.proofs.Steps.{run-on}
+use Rattle.ocm_law_runs.proofs.Steps.{IsAlone, run-on}
 
 -- no servers, and no sessions
-pub reached-from : (events : List Event) (text : List ℕ) (final : List Server) → Transcript [] 1 events text final → (w : World) × IsReached w × Stands w final
+pub reached-from : (events : List Event) (text : List ℕ) (final : List Server) → Transcript [] 1 events text final → (w : World) × IsAlone w × Stands w final
 reached-from events text final transcript = transcript-run empty [] final 1 events text Stays (λ host. refl) transcript
 
 -- ---- from a world to the servers that it stands for, and back
@@ -86,7 +86,7 @@ pub session-of-transcript : (events : List Event) (text : List ℕ) (final : Lis
     → IsSession host area server.base server.calls
 session-of-transcript events text final host server transcript there =
     let at = reached-from events text final transcript in
-    sessions-reached at.0 at.1 host (session_of server) (session-at at.0 final host server at.2 there)
+    sessions-reached at.0 (alone-reached at.0 at.1) host (session_of server) (session-at at.0 final host server at.2 there)
 
 -- ---- guests
 
@@ -95,7 +95,7 @@ pub confirmed-made : (events : List Event) (text : List ℕ) (final : List Serve
 confirmed-made events text final host server n offer transcript there taken confirmed =
     let at = reached-from events text final transcript in
     of-session (λ s. guests.Makes (guests.view_at offer.owner.host s) offer) at.0 final offer.owner.host at.2
-    (guest at.0 at.1 host (session_of server) (session-at at.0 final host server at.2 there) n offer taken (ap is_confirmed confirmed))
+    (guest at.0 (alone-reached at.0 at.1) host (session_of server) (session-at at.0 final host server at.2 there) n offer taken (ap is_confirmed confirmed) (alone-ours at.0 at.1 offer.owner.host))
 
 -- ---- ends
 
@@ -104,11 +104,11 @@ world-ended : (w : World) (servers : List Server) (host : List ℕ) (i : ℕ) (m
 world-ended w servers host i m stands (server, there, is, ended) = (session_of server, session-at w servers host server stands there, is, ended)
 
 -- it has ended after all further lines
-ended-on : (w : World) (servers final : List Server) (number : ℕ) (events : List Event) (text : List ℕ) (host : List ℕ) (i : ℕ) (m : Share) → IsReached w → Stands w servers
+ended-on : (w : World) (servers final : List Server) (number : ℕ) (events : List Event) (text : List ℕ) (host : List ℕ) (i : ℕ) (m : Share) → IsAlone w → Stands w servers
     → Transcript servers number events text final → IsEnded servers host i m → IsEnded final host i m
 ended-on w servers final number events text host i m reached stands goes_on ended =
     let later = transcript-run w servers final number events text reached stands goes_on in
-    let last = ended-later w later.0 host i m reached later.1 (world-ended w servers host i m stands ended) in
+    let last = ended-later w later.0 host i m (alone-reached w reached) later.1 (world-ended w servers host i m stands ended) in
     let found = of-session (λ s. (at_number (made host (worlds.kept_at host s)) i ≡ Some m) × (is_live host (worlds.kept_at host s) i ≡ false)) later.0 final host later.2 (last.0, last.1, (last.2, last.3)) in
     (found.0, found.1, found.2.0, found.2.1)
 
@@ -131,23 +131,23 @@ refused-asked number shown b servers host ask server there law = by_reply (law (
     by_reply (inr told) = inr (printed NoMemory told ∙ no_memory-text number shown)
 
 -- what a line prints that asks for files with its secret
-refused-line : (w : World) (servers : List Server) (number : ℕ) (host : List ℕ) (i : ℕ) (m : Share) (e : Event) (line : lines.Run) → IsReached w → Stands w servers
+refused-line : (w : World) (servers : List Server) (number : ℕ) (host : List ℕ) (i : ℕ) (m : Share) (e : Event) (line : lines.Run) → IsAlone w → Stands w servers
     → IsEnded servers host i m → UsesSecret host m.secret e → IsRun servers number e line → IsRefused number line
 refused-line w servers number host i m (Dav h s method path) line reached stands ended (same_host, same_secret) is =
     let run = subst (λ x. IsRun servers number (Dav host x method path) line) same_secret (subst (λ x. IsRun servers number (Dav x s method path) line) same_host is) in
     subst (IsRefused number) (sym run.1)
     (refused-asked number (shows_digits (Dav host m.secret method path)) (next_wanting run.0) servers host (asks.Dav m.secret method path []) ended.0 ended.1
-    (refused-read w host (session_of ended.0) i m method path [] _ reached (world-ended w servers host i m stands ended) (session-at w servers host ended.0 stands ended.1)))
+    (refused-read w host (session_of ended.0) i m method path [] _ (alone-reached w reached) (world-ended w servers host i m stands ended) (session-at w servers host ended.0 stands ended.1)))
 refused-line w servers number host i m (Put h s path body) line reached stands ended (same_host, same_secret) is =
     let run = subst (λ x. IsRun servers number (Put host x path body) line) same_secret (subst (λ x. IsRun servers number (Put x s path body) line) same_host is) in
     subst (IsRefused number) (sym run.1)
     (refused-asked number true (next_wanting run.0) servers host (asks.Dav m.secret methods.Put path (bytes_of body)) ended.0 ended.1
-    (refused-read w host (session_of ended.0) i m methods.Put path (bytes_of body) _ reached (world-ended w servers host i m stands ended) (session-at w servers host ended.0 stands ended.1)))
+    (refused-read w host (session_of ended.0) i m methods.Put path (bytes_of body) _ (alone-reached w reached) (world-ended w servers host i m stands ended) (session-at w servers host ended.0 stands ended.1)))
 refused-line w servers number host i m (Carry h s from to moving overwrite) line reached stands ended (same_host, same_secret) is =
     let run = subst (λ x. IsRun servers number (Carry host x from to moving overwrite) line) same_secret (subst (λ x. IsRun servers number (Carry x s from to moving overwrite) line) same_host is) in
     subst (IsRefused number) (sym run.1)
     (refused-asked number true (next_wanting run.0) servers host (asks.Carry m.secret from to moving overwrite) ended.0 ended.1
-    (refused-carry w host (session_of ended.0) i m from to moving overwrite _ reached (world-ended w servers host i m stands ended) (session-at w servers host ended.0 stands ended.1)))
+    (refused-carry w host (session_of ended.0) i m from to moving overwrite _ (alone-reached w reached) (world-ended w servers host i m stands ended) (session-at w servers host ended.0 stands ended.1)))
 refused-line w servers number host i m _ line reached stands ended uses is = absurd uses
 
 pub ended-refused : (events : List Event) (text : List ℕ) (servers : List Server) (number : ℕ) (host : List ℕ) (i : ℕ) (m : Share) (e : Event) (line : lines.Run)

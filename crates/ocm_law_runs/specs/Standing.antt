@@ -43,7 +43,7 @@ IsMade servers offer =
 abbrev pub IsRefused : ℕ → Run → Type 0
 IsRefused number line = (line.text ≡ line_text number (codes "401 unauthorized")) ⊎ (line.text ≡ line_text number (codes "500 no memory"))
 
--- a line asks the server of this host for files with this secret
+-- a line that is no `raw` asks the server of this host for files with this secret
 abbrev pub UsesSecret : List ℕ → List ℕ → Event → Type 0
 UsesSecret host secret (Dav h s method path) = (h ≡ host) × (s ≡ secret)
 UsesSecret host secret (Put h s path body) = (h ≡ host) × (s ≡ secret)

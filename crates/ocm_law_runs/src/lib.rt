@@ -7,3 +7,4 @@
 
 pub mod laws;
 pub mod runs;
+pub mod wrong;

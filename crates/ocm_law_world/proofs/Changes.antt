@@ -185,6 +185,11 @@ change-sent v _ j m is h = absurd (nothing-at j m is)
 
 -- ---- what they tell
 
+-- a share that is made is there after all later entries
+pub made-later : (host : List ℕ) (later g : List Entry) (id : ℕ) (share : Share) → at_number (made host g) id ≡ Some share → at_number (made host (later ++ g)) id ≡ Some share
+made-later host [] g id share is = is
+made-later host (e ∷ later) g id share is = at_number-added (made host (later ++ g)) _ id share (made-later host later g id share is)
+
 -- of these kept entries one is the limit of this number, after which the share of this number permits this
 pub record Limited (host : List ℕ) (g : List Entry) (m : Message) : Type 0 where
   pub id : ℕ
@@ -192,7 +197,7 @@ pub record Limited (host : List ℕ) (g : List Entry) (m : Message) : Type 0 whe
   pub later : List Entry
   pub limit : Entry
   pub before : List Entry
-  pub made : at_number (made host g) id ≡ Some share
+  pub made : at_number (made host (limit ∷ before)) id ≡ Some share
   pub stands : g ≡ later ++ limit ∷ before
   pub is_limit : is_limit limit.ask ≡ true
   pub message : m ≡ changed (limits (limit ∷ before)) (effective host (limit ∷ before) id) id share
@@ -204,7 +209,7 @@ limited-older host e before m l = record {
   later = e ∷ l.later;
   limit = l.limit;
   before = l.before;
-  made = at_number-added (made host before) _ l.id l.share l.made;
+  made = l.made;
   stands = ap (λ rest. e ∷ rest) l.stands;
   is_limit = l.is_limit;
   message = l.message;

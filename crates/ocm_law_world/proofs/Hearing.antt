@@ -3,6 +3,7 @@ use Rattle.std.proofs.Common.{◌≡◌, ℕ, ◌+◌, ◌<◌, List, [], ◌∷
 use Rattle.std.specs.Prelude.{Option, Some, None, ◌⊎◌, if◌then◌else◌, nat_le, nat_lt, nat_eq, decimal, filter_map}
 use Rattle.std.specs.List.{cons_option, list_any}
 use Rattle.std.specs.Option.{option_map_or}
+use Rattle.std.proofs.lemmas.Bool.{ltb-true}
 use mathlib.Core.Logic.{inl, inr}
 use Rattle.ocm_types.specs.declared.letters.Letter.TheVariants as letters
 use Rattle.ocm_types.specs.declared.letters.Notice.TheVariants as notices
@@ -26,7 +27,7 @@ use Rattle.ocm_rules.proofs.Searches.{some-same}
 use Rattle.ocm_law_grants.proofs.Permissions.{within-itself}
 use Rattle.ocm_law_world.specs.Guests.{HearsOwnerAlone, IsAfterLimit, IsMade, IsSaid, tells}
 use Rattle.ocm_law_world.specs.World.{IsReached, Session, World, kept_at}
-use Rattle.ocm_law_world.proofs.Changes.{changes-limited, id-names}
+use Rattle.ocm_law_world.proofs.Changes.{changes-limited, id-names, made-later}
 use Rattle.ocm_law_world.proofs.Laws.{answered-reached}
 
 -- ---- what was told last
@@ -96,6 +97,7 @@ said-limited : (host : List ℕ) (g : List Entry) (offer : Offer) (said : Told) 
     → m.letter ≡ letters.Notice (notices.Changed offer.id offer.secret said.serial said.perms) → IsAfterLimit host g offer said
 said-limited host g offer said number m answered sent letter =
     let l = changes-limited host g number m sent (ap is_change letter) in
+    let there = subst (λ k. at_number (made host k) l.id ≡ Some l.share) (sym l.stands) (made-later host l.later (l.limit ∷ l.before) l.id l.share l.made) in
     let same : letters.Notice (notices.Changed (decimal l.id) l.share.secret (limits (l.limit ∷ l.before)) (effective host (l.limit ∷ l.before) l.id)) ≡ letters.Notice (notices.Changed offer.id offer.secret said.serial said.perms) =
     sym (ap (λ (k : Message). k.letter) l.message) ∙ letter in
     let id : decimal l.id ≡ offer.id = cc in
@@ -105,7 +107,7 @@ said-limited host g offer said number m answered sent letter =
     record {
       id = l.id;
       share = l.share;
-      named = ap named (sym id) ∙ id-names host g l.id l.share answered l.made;
+      named = ap named (sym id) ∙ id-names host g l.id l.share answered there;
       made = l.made;
       secret = secret;
       later = l.later;
@@ -118,7 +120,7 @@ said-limited host g offer said number m answered sent letter =
     }
 
 -- a limit counts
-limit-counts : (e : Entry) (before : List Entry) → Rattle.ocm_rules.specs.Views.is_limit e.ask ≡ true → 0 < limits (e ∷ before)
+pub limit-counts : (e : Entry) (before : List Entry) → Rattle.ocm_rules.specs.Views.is_limit e.ask ≡ true → 0 < limits (e ∷ before)
 limit-counts e before is =
     let counted = count_by-cons (λ (x : Entry). Rattle.ocm_rules.specs.Views.is_limit x.ask) e before ∙ ap (λ b. if b then limits before + 1 else limits before) is in
     omega (arith, counted)
@@ -145,16 +147,23 @@ either-told w host s n offer reached there alone = by_case (told-heard (kept_at 
     by_case (inl first) = inl first
     by_case (inr any) = inr (said-after w offer last reached (alone last any))
 
-pub told-first : (w : World) (host : List ℕ) (s : Session) (n : ℕ) (offer : Offer) → IsReached w → w.session host ≡ Some s → at_number (offers (kept_at host s)) n ≡ Some offer → HearsOwnerAlone w host s offer
-    → (told (kept_at host s) n).serial ≡ 0 → (told (kept_at host s) n).perms ≡ offer.perms
-told-first w host s n offer reached is there alone zero_serial = by_case (either-told w host s n offer reached there alone)
+-- of what was told with the serial 0 the greatest is what stood at the beginning
+greatest-first : (start : Told) (l : List Told) → (greatest start l).serial ≡ 0 → greatest start l ≡ start
+greatest-first start [] none = refl
+greatest-first start (new ∷ older) none = by_order (nat_lt before.serial new.serial) refl none (greatest-first start older)
   where
-    last : Told
-    last = told (kept_at host s) n
+    before : Told
+    before = greatest start older
 
-    by_case : (last ≡ told_first offer) ⊎ SaidAfterLimit w offer last → last.perms ≡ offer.perms
-    by_case (inl first) = ap (λ (t : Told). t.perms) first
-    by_case (inr (y, at, l)) = let counts = limit-counts l.limit l.before l.is_limit in let number = l.number in absurd (omega arith)
+    by_order : (b : Bool) → nat_lt before.serial new.serial ≡ b → (if b then new else before).serial ≡ 0 → (before.serial ≡ 0 → before ≡ start) → (if b then new else before) ≡ start
+    by_order true less zero_serial old = let above = ltb-true before.serial new.serial less in absurd (omega arith)
+    by_order false less zero_serial old = old zero_serial
+
+pub told-first : (g : List Entry) (n : ℕ) (offer : Offer) → at_number (offers g) n ≡ Some offer → (told g n).serial ≡ 0 → (told g n).perms ≡ offer.perms
+told-first g n offer there =
+    let news : List Told = filter_map (λ (e : Entry). told_by offer e.ask) (since_offer n g) in
+    let P : Option Offer → Type 0 = λ o. let last : Told = option_map_or (λ offer. greatest (told_first offer) (filter_map (λ (e : Entry). told_by offer e.ask) (since_offer n g))) o (record { serial = 0; perms = record { read = false; write = false; share = false } }) in last.serial ≡ 0 → last.perms ≡ offer.perms in
+    subst P (sym there) (λ none. ap (λ (t : Told). t.perms) (greatest-first (told_first offer) news none))
 
 pub told-later : (w : World) (host : List ℕ) (s : Session) (n : ℕ) (offer : Offer) → IsReached w → w.session host ≡ Some s → at_number (offers (kept_at host s)) n ≡ Some offer → HearsOwnerAlone w host s offer
     → 0 < (told (kept_at host s) n).serial → SaidAfterLimit w offer (told (kept_at host s) n)
@@ -173,8 +182,10 @@ pub told-share : (w : World) (offer : Offer) (last : Told) (s : Session) (l : Is
 told-share w offer last s l is (t, at, made) =
     let same : t ≡ s = some-same t s (sym at ∙ is) in
     let id : made.id ≡ l.id = some-same made.id l.id (sym made.named ∙ l.named) in
+    let host = offer.owner.host in
+    let there = subst (λ k. at_number (Rattle.ocm_rules.specs.Shares.made host k) l.id ≡ Some l.share) (sym l.stands) (made-later host l.later (l.limit ∷ l.before) l.id l.share l.made) in
     let P : Session → Type 0 = λ u. at_number (Rattle.ocm_rules.specs.Shares.made offer.owner.host (kept_at offer.owner.host u)) made.id ≡ Some made.share in
-    let share : made.share ≡ l.share = some-same made.share l.share (sym (subst P same made.made) ∙ ap (λ i. at_number (Rattle.ocm_rules.specs.Shares.made offer.owner.host (kept_at offer.owner.host s)) i) id ∙ l.made) in
+    let share : made.share ≡ l.share = some-same made.share l.share (sym (subst P same made.made) ∙ ap (λ i. at_number (Rattle.ocm_rules.specs.Shares.made offer.owner.host (kept_at offer.owner.host s)) i) id ∙ there) in
     let Q : Session → Type 0 = λ u. address_of offer.owner.host (users (kept_at offer.owner.host u)) made.share.owner ≡ offer.owner in
     let R : Share → Type 0 = λ m. address_of offer.owner.host (users (kept_at offer.owner.host s)) m.owner ≡ offer.owner in
     let S : Share → Type 0 = λ m. m.with ≡ offer.with in

@@ -30,7 +30,7 @@ use Rattle.ocm_law_world.proofs.Confirming.{HasTold, told-lasts}
 use Rattle.ocm_law_world.proofs.Growth.{HasEnded, ended-lasts}
 use Rattle.ocm_law_world.proofs.Steps.{lasts-run, sessions-reached}
 use Rattle.ocm_law_world.proofs.Truths.{AreTrue, one-true}
-use Rattle.ocm_law_world.proofs.Reached.{holds-run}
+use Rattle.ocm_law_world.proofs.Reached.{holds-reached}
 
 -- ---- histories
 
@@ -74,12 +74,12 @@ refused-carry w host s i m from to moving overwrite reply reached ended is told 
 -- ---- answers under way
 
 pub answer-true : (w : World) (newer older : List Answer) (a : Answer) (s : Session) (n : ℕ) (offer : Offer) → IsReached w → w.answers ≡ newer ++ a ∷ older → w.session a.host ≡ Some s
-    → at_number (out a.host (kept_at a.host s)) a.number ≡ Some (acceptance n offer) → is_success a.status ≡ true → IsMade w offer
-answer-true w newer older a s n offer reached under is sent well =
-    let own = (one-true w newer older a (subst (AreTrue w) under (holds-run w reached).answers)).0 in
+    → at_number (out a.host (kept_at a.host s)) a.number ≡ Some (acceptance n offer) → is_success a.status ≡ true → w.foreign offer.owner.host ≡ false → IsMade w offer
+answer-true w newer older a s n offer reached under is sent well ours =
+    let own = (one-true w newer older a (subst (AreTrue w) under (holds-reached w reached).answers)).0 in
     let same : own.0 ≡ s = some-same own.0 s (sym own.2 ∙ is) in
     let P : Session → Type 0 = λ t. at_number (out a.host (kept_at a.host t)) a.number ≡ Some own.1 in
-    own.4 well n offer (some-same own.1 (acceptance n offer) (sym (subst P same own.3) ∙ sent))
+    own.4 well n offer (some-same own.1 (acceptance n offer) (sym (subst P same own.3) ∙ sent)) ours
 
 -- ---- what was told
 

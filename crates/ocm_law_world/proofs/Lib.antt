@@ -14,3 +14,4 @@ pub mod Telling
 pub mod Owning
 pub mod Worked
 pub mod Unmade
+pub mod Settling

@@ -30,14 +30,14 @@ use Rattle.ocm_law_lean.proofs.Thin.{of_tick, same_kept}
 use Rattle.ocm_law_sessions.specs.Sessions.{heard}
 use Rattle.ocm_law_sessions.specs.Crashes.{HasLeanWith, IsNext, unheard}
 use Rattle.ocm_law_world.specs.Deliveries.{letter_ask}
-use Rattle.ocm_law_world.specs.World.{Answer, Run, Session, Step, World, answer_to, changed, empty, history_of, kept_at, new_session, reopened, settlement_by, with_call}
+use Rattle.ocm_law_world.specs.World.{Answer, Run, Session, Step, World, answer_to, changed, empty_among, history_of, kept_at, new_session, reopened, settlement_by, with_call}
 use Rattle.ocm_law_world.specs.World.Run.{Stays, Goes_on}
-use Rattle.ocm_law_world.specs.World.Step.{Begins, Asks, Delivers, Comes, Crashes}
+use Rattle.ocm_law_world.specs.World.Step.{Begins, Asks, Delivers, Foreign, Comes, Crashes}
 use Rattle.ocm_law_world.specs.Guests.{HearsOwnerAlone, IsSaid, tells}
 use Rattle.ocm_law_world.specs.Hearing.{HearsInRun, HearsInStep, IsOwnersWord}
 use Rattle.ocm_law_world.proofs.Texts.{text-equal}
 use Rattle.ocm_law_world.proofs.Growth.{HasMessage, message-lasts}
-use Rattle.ocm_law_world.proofs.Steps.{AreSessions, Grows, grows-step, lasts-grown, looked, sessions-run}
+use Rattle.ocm_law_world.proofs.Steps.{AreSessions, Grows, grows-step, lasts-grown, looked, none-here, sessions-run}
 
 -- ---- what was said stays said
 
@@ -120,8 +120,8 @@ alone-at w host offer other t answers grows old new s is told any = said-on w (c
         host u is refl
 
 alone-step : (w next : World) (host : List ℕ) (offer : Offer) (step : Step w next) → AreSessions w → AloneAt w host offer → HearsInStep host offer w next step → AloneAt next host offer
-alone-step w _ host offer (Begins other area none) all old hears =
-    alone-at w host offer other (new_session area) w.answers (grows-step w (changed w other (new_session area) w.answers) all (Begins other area none)) old (λ same told any. absurd (cc))
+alone-step w _ host offer (Begins other area ours none) all old hears =
+    alone-at w host offer other (new_session area) w.answers (grows-step w (changed w other (new_session area) w.answers) all (Begins other area ours none)) old (λ same told any. absurd (cc))
 alone-step w _ host offer (Asks other s ask reply is plain told) all old hears =
     alone-at w host offer other (with_call s ask reply) w.answers (grows-step w (changed w other (with_call s ask reply) w.answers) all (Asks other s ask reply is plain told)) old
     (λ same. word-entry w other offer (record { ask = ask; reply = reply }) (history_of s) (hears same) (here same))
@@ -135,6 +135,7 @@ alone-step w _ host offer (Delivers sender s number message peer fresh reply is 
   where
     here : message.to ≡ host → Word w offer (kept_at message.to peer)
     here same = let P : List ℕ → Type 0 = λ x. w.session x ≡ Some peer → Word w offer (kept_at x peer) in subst P (sym same) (λ at. old peer at) there
+alone-step w _ host offer (Foreign sender s number message status id is sent theirs) all old hears = old
 alone-step w _ host offer (Comes newer older a s reply under is told) all old hears =
     alone-at w host offer a.host (with_call s (settlement_by a) reply) (newer ++ older)
     (grows-step w (changed w a.host (with_call s (settlement_by a) reply) (newer ++ older)) all (Comes newer older a s reply under is told)) old
@@ -149,13 +150,11 @@ alone-step w _ host offer (Crashes other s flight answers next is flies comes) a
     here : other ≡ host → Word w offer (kept_at other s)
     here same = let P : List ℕ → Type 0 = λ x. w.session x ≡ Some s → Word w offer (kept_at x s) in subst P (sym same) (λ at. old s at) is
 
-none-here : AreSessions empty
-none-here host s h = absurd (cc)
-
-pub hears-run : (w : World) (run : Run empty w) (host : List ℕ) (offer : Offer) → HearsInRun host offer empty w run → (s : Session) → w.session host ≡ Some s → HearsOwnerAlone w host s offer
-hears-run _ Stays host offer hears s is = absurd (cc)
-hears-run _ (Goes_on w next run step) host offer hears s is =
-    alone-step w next host offer step (sessions-run empty w none-here run) (hears-run w run host offer hears.0) hears.1 s is
+pub hears-run : (foreign : List ℕ → Bool) (w : World) (run : Run (empty_among foreign) w) (host : List ℕ) (offer : Offer) → HearsInRun host offer (empty_among foreign) w run
+    → (s : Session) → w.session host ≡ Some s → HearsOwnerAlone w host s offer
+hears-run foreign _ Stays host offer hears s is = absurd (cc)
+hears-run foreign _ (Goes_on w next run step) host offer hears s is =
+    alone-step w next host offer step (sessions-run (empty_among foreign) w (none-here foreign) run) (hears-run foreign w run host offer hears.0) hears.1 s is
 
 -- ---- what the owner's server delivers
 

@@ -1,5 +1,5 @@
 -- What holds of a world holds after each step.
-use Rattle.std.proofs.Common.{◌≡◌, ℕ, zero, suc, List, [], ◌∷◌, ◌++◌, Bool, true, false, refl, sym, ap, subst}
+use Rattle.std.proofs.Common.{◌≡◌, ℕ, zero, suc, List, [], ◌∷◌, ◌++◌, Bool, true, false, ◌||◌, refl, sym, ap, ◌∙◌, subst}
 use Rattle.std.specs.Prelude.{Option, Some, None, option_map, option_and_then, if◌then◌else◌}
 use Rattle.std.specs.Option.{option_or}
 use Rattle.ocm_types.specs.declared.letters.Letter.{Letter}
@@ -10,7 +10,7 @@ use Rattle.ocm_entry.specs.declared.replies.Reply.{Reply}
 use Rattle.ocm_entry.specs.declared.entries.Entry.{Entry}
 use Rattle.ocm_rules.specs.declared.rows.Message.{Message}
 use Rattle.ocm_rules.specs.Numbers.{at_number}
-use Rattle.ocm_rules.specs.Settlements.{is_success}
+use Rattle.ocm_rules.specs.Settlements.{is_success, is_refusal}
 use Rattle.ocm_rules.specs.Offers.{is_confirmed}
 use Rattle.ocm_rules.specs.Messages.{acceptance}
 use Rattle.ocm_rules.proofs.Lists.{not_both}
@@ -19,11 +19,12 @@ use Rattle.ocm_law_sessions.specs.Sessions.{IsReply, count_of, fault_in, would_c
 use Rattle.ocm_law_sessions.specs.Crashes.{faulted, if_changing, unheard}
 use Rattle.ocm_law_sessions.proofs.Replying.{reply-given}
 use Rattle.ocm_law_world.specs.Deliveries.{letter_ask, delivered_status}
-use Rattle.ocm_law_world.specs.World.{Session, Answer, World, Flight, Run, Step, answer_to, changed, empty, history_of, is_settlement, new_session, reopened, settlement_by, with_call}
+use Rattle.ocm_law_world.specs.World.{Session, Answer, World, Flight, Run, Step, answer_to, changed, empty_among, history_of, is_settlement, new_session, reopened, settlement_by, with_call, IsReached}
 use Rattle.ocm_law_world.specs.World.Flight.{Nothing, Asked, Answered}
 use Rattle.ocm_law_world.specs.World.Run.{Stays, Goes_on}
-use Rattle.ocm_law_world.specs.World.Step.{Begins, Asks, Delivers, Comes, Crashes}
+use Rattle.ocm_law_world.specs.World.Step.{Begins, Asks, Delivers, Foreign, Comes, Crashes}
 use Rattle.ocm_law_world.specs.Guests.{IsMade, view_at}
+use Rattle.ocm_law_world.proofs.Growth.{HasMessage}
 use Rattle.ocm_law_world.proofs.Taken.{taken}
 use Rattle.ocm_law_world.proofs.Steps.{Grows, grows-new, looked, onward-call, onward-crash, sessions-step}
 use Rattle.ocm_law_world.proofs.Truths.{AreTrue, Holds, IsTrueAnswer, IsTrueAsk, all-true-on, holds-at, made-on, one-true, true-ask-on}
@@ -32,7 +33,7 @@ use Rattle.ocm_law_world.proofs.Truths.{AreTrue, Holds, IsTrueAnswer, IsTrueAsk,
 
 -- an ask that is no settlement
 plain : (w : World) (host : List ℕ) (ask : Ask) → is_settlement ask ≡ false → IsTrueAsk w host ask
-plain w host ask other number status id same = absurd (not_both (is_settlement ask) (ap is_settlement same) other)
+plain w host ask other number status id same well = absurd (not_both (is_settlement ask) (ap is_settlement same ∙ ap (λ b. b || is_refusal status) well) other)
 
 letter-plain : (letter : Letter) (fresh : List ℕ) → is_settlement (letter_ask letter fresh) ≡ false
 letter-plain (letters.Offer offer) fresh = refl
@@ -40,7 +41,7 @@ letter-plain (letters.Notice notice) fresh = refl
 
 -- the settlement by an answer that tells the truth
 by-answer : (w : World) (a : Answer) → IsTrueAnswer w a.host a.number a.status → IsTrueAsk w a.host (settlement_by a)
-by-answer w a h number status id same =
+by-answer w a h number status id same well =
     let n : a.number ≡ number = cc in
     let s : a.status ≡ status = cc in
     let P : ℕ → Type 0 = λ k. IsTrueAnswer w a.host k status in
@@ -68,6 +69,12 @@ made-by w peer fresh reply n offer message same = subst P (sym same) at_owner
     at_owner : P (acceptance n offer)
     at_owner there told well =
         (peer, there, taken offer.owner.host (history_of peer) offer fresh reply (reply-given offer.owner.host peer.area (fault_in peer.calls) (history_of peer) (letter_ask (acceptance n offer).letter fresh) reply told) well)
+
+-- an answer of a foreign host tells nothing of the acceptances that go to others
+foreign-true : (w : World) (host : List ℕ) (s : Session) (number : ℕ) (message : Message) (status : ℕ) → w.session host ≡ Some s → HasMessage number message (view_at host s)
+    → w.foreign message.to ≡ true → IsTrueAnswer w host number status
+foreign-true w host s number message status is sent theirs =
+    (s, message, is, sent, λ well n offer same ours. absurd (not_both (w.foreign message.to) theirs (ap (λ (m : Message). w.foreign m.to) same ∙ ours)))
 
 -- ---- crashes
 
@@ -99,16 +106,16 @@ pub nothing-there : {X : Type 0} (n : ℕ) (x : X) → at_number [] n ≡ Some x
 nothing-there zero x h = cc
 nothing-there (suc n) x h = cc
 
-holds-begin : (w : World) (host : List ℕ) (area : ℕ) → Holds w → w.session host ≡ None → Holds (changed w host (new_session area) w.answers)
-holds-begin w host area holds none = record {
-  sessions = sessions-step w next holds.sessions (Begins host area none);
+holds-begin : (w : World) (host : List ℕ) (area : ℕ) → Holds w → w.foreign host ≡ false → w.session host ≡ None → Holds (changed w host (new_session area) w.answers)
+holds-begin w host area holds ours none = record {
+  sessions = sessions-step w next holds.sessions (Begins host area ours none);
   confirmed =
-      looked w host (new_session area) w.answers Confirmed (λ n offer there confirmed. absurd (nothing-there n offer there))
-      (λ other u at n offer there confirmed. made-on w next offer grows (holds.confirmed other u at n offer there confirmed));
-  answers = all-true-on w next w.answers grows holds.answers;
+      looked w host (new_session area) w.answers Confirmed (λ n offer there confirmed ours. absurd (nothing-there n offer there))
+      (λ other u at n offer there confirmed ours. made-on w next offer grows (holds.confirmed other u at n offer there confirmed ours));
+  answers = all-true-on w next w.answers refl grows holds.answers;
   faulted =
       looked w host (new_session area) w.answers Faulted (λ ask e. absurd (cc))
-      (λ other u at ask e. true-ask-on w next other ask grows (holds.faulted other u at ask e));
+      (λ other u at ask e. true-ask-on w next other ask refl grows (holds.faulted other u at ask e));
 }
   where
     next : World
@@ -118,13 +125,13 @@ holds-begin w host area holds none = record {
     grows = grows-new w host (new_session area) w.answers none
 
     Confirmed : List ℕ → Session → Type 0
-    Confirmed x u = (n : ℕ) (offer : Offer) → at_number (view_at x u).offers n ≡ Some offer → is_confirmed ((view_at x u).phase n) ≡ true → IsMade next offer
+    Confirmed x u = (n : ℕ) (offer : Offer) → at_number (view_at x u).offers n ≡ Some offer → is_confirmed ((view_at x u).phase n) ≡ true → next.foreign offer.owner.host ≡ false → IsMade next offer
 
     Faulted : List ℕ → Session → Type 0
     Faulted x u = (ask : Ask) → faulted u.calls ≡ Some ask → IsTrueAsk next x ask
 
 pub holds-step : (w next : World) → Holds w → Step w next → Holds next
-holds-step w _ holds (Begins host area none) = holds-begin w host area holds none
+holds-step w _ holds (Begins host area ours none) = holds-begin w host area holds ours none
 holds-step w _ holds (Asks host s ask reply is other told) =
     let session = holds.sessions host s is in
     let true_ask = plain w host ask other in
@@ -135,9 +142,15 @@ holds-step w _ holds (Delivers host s number message peer fresh reply is sent th
     let ask = letter_ask message.letter fresh in
     let session = holds.sessions to peer there in
     let true_ask = plain w to ask (letter-plain message.letter fresh) in
-    let answer : IsTrueAnswer w host number (delivered_status reply) = (s, message, is, sent, λ well n offer same. made-by w peer fresh reply n offer message same there told well) in
+    let answer : IsTrueAnswer w host number (delivered_status reply) = (s, message, is, sent, λ well n offer same ours. made-by w peer fresh reply n offer message same there told well) in
     holds-at w to peer (with_call peer ask reply) (answer_to host number reply ∷ w.answers) holds there (told, session) (onward-call (IsTrueAsk w to) to peer ask reply session told true_ask) (answer, holds.answers)
     (fault-of (IsTrueAsk w to) peer ask reply true_ask (holds.faulted to peer there))
+holds-step w _ holds (Foreign host s number message status id is sent theirs) = record {
+  sessions = holds.sessions;
+  confirmed = holds.confirmed;
+  answers = (foreign-true w host s number message status is sent theirs, holds.answers);
+  faulted = holds.faulted;
+}
 holds-step w _ holds (Comes newer older a s reply under is told) =
     let session = holds.sessions a.host s is in
     let parts = one-true w newer older a (subst (AreTrue w) under holds.answers) in
@@ -151,19 +164,22 @@ holds-step w _ holds (Crashes host s flight answers next is flies comes) =
     (onward-crash (IsTrueAsk w host) host s flight next session comes (unheard-is (IsTrueAsk w host) host s.base s.calls flight (holds.faulted host s is) flown.1)) flown.0
     (λ ask e. absurd (cc))
 
--- the empty world
-holds-empty : Holds empty
-holds-empty = record {
+-- the world without servers
+holds-empty : (foreign : List ℕ → Bool) → Holds (empty_among foreign)
+holds-empty foreign = record {
   sessions = λ host s h. absurd (cc);
-  confirmed = λ host s h n offer there confirmed. absurd (cc);
+  confirmed = λ host s h n offer there confirmed ours. absurd (cc);
   answers = tt;
   faulted = λ host s h ask e. absurd (cc);
 }
 
-pub holds-run : (w : World) → Run empty w → Holds w
-holds-run _ Stays = holds-empty
-holds-run _ (Goes_on w next run step) = holds-step w next (holds-run w run) step
+holds-run : (foreign : List ℕ → Bool) (w : World) → Run (empty_among foreign) w → Holds w
+holds-run foreign _ Stays = holds-empty foreign
+holds-run foreign _ (Goes_on w next run step) = holds-step w next (holds-run foreign w run) step
 
--- a record that is confirmed is of an offer that its owner's server has made
-pub guest : (w : World) → Run empty w → (host : List ℕ) (s : Session) → w.session host ≡ Some s → (n : ℕ) (offer : Offer) → at_number (view_at host s).offers n ≡ Some offer → is_confirmed ((view_at host s).phase n) ≡ true → IsMade w offer
-guest w run = (holds-run w run).confirmed
+pub holds-reached : (w : World) → IsReached w → Holds w
+holds-reached w reached = holds-run w.foreign w reached
+
+-- a record that is confirmed is of an offer that its owner's server has made, where that is not foreign
+pub guest : (w : World) → IsReached w → (host : List ℕ) (s : Session) → w.session host ≡ Some s → (n : ℕ) (offer : Offer) → at_number (view_at host s).offers n ≡ Some offer → is_confirmed ((view_at host s).phase n) ≡ true → w.foreign offer.owner.host ≡ false → IsMade w offer
+guest w reached = (holds-reached w reached).confirmed

@@ -16,9 +16,9 @@ use Rattle.ocm_law_sessions.specs.Sessions.{IsReply, IsSession, fault_in, heard}
 use Rattle.ocm_law_sessions.specs.Crashes.{HasLeanWith, IsNext, unheard}
 use Rattle.ocm_law_sessions.proofs.Replying.{reply-given, session-legal, view-same}
 use Rattle.ocm_law_world.specs.Deliveries.{letter_ask}
-use Rattle.ocm_law_world.specs.World.{Session, Answer, World, answer_to, changed, empty, history_of, new_session, reopened, settlement_by, with_call, Run, Step}
+use Rattle.ocm_law_world.specs.World.{Session, Answer, World, answer_to, changed, empty, empty_among, history_of, new_session, reopened, settlement_by, with_call, IsReached, Run, Step}
 use Rattle.ocm_law_world.specs.World.Run.{Stays, Goes_on}
-use Rattle.ocm_law_world.specs.World.Step.{Begins, Asks, Delivers, Comes, Crashes}
+use Rattle.ocm_law_world.specs.World.Step.{Begins, Asks, Delivers, Foreign, Comes, Crashes}
 use Rattle.ocm_law_world.specs.Guests.{view_at}
 use Rattle.ocm_law_world.proofs.Texts.{text-equal}
 use Rattle.ocm_law_world.proofs.Growth.{Lasts}
@@ -48,10 +48,11 @@ abbrev SessionOf : List ℕ → Session → Type 0
 SessionOf host s = IsSession host s.area s.base s.calls
 
 pub sessions-step : (w next : World) → AreSessions w → Step w next → AreSessions next
-sessions-step w _ all (Begins host area none) = looked w host (new_session area) w.answers SessionOf tt all
+sessions-step w _ all (Begins host area ours none) = looked w host (new_session area) w.answers SessionOf tt all
 sessions-step w _ all (Asks host s ask reply is other told) = looked w host (with_call s ask reply) w.answers SessionOf (told, all host s is) all
 sessions-step w _ all (Delivers host s number message peer fresh reply is sent there told) =
     looked w message.to (with_call peer (letter_ask message.letter fresh) reply) (answer_to host number reply ∷ w.answers) SessionOf (told, all message.to peer there) all
+sessions-step w _ all (Foreign host s number message status id is sent theirs) = all
 sessions-step w _ all (Comes newer older a s reply under is told) = looked w a.host (with_call s (settlement_by a) reply) (newer ++ older) SessionOf (told, all a.host s is) all
 sessions-step w _ all (Crashes host s flight answers next is flies comes) = looked w host (reopened s next) answers SessionOf comes.0 all
 
@@ -59,12 +60,57 @@ pub sessions-run : (first w : World) → AreSessions first → Run first w → A
 sessions-run first _ all Stays = all
 sessions-run first _ all (Goes_on w next run step) = sessions-step w next (sessions-run first w all run) step
 
-none-here : AreSessions empty
-none-here host s h = absurd (cc)
+pub none-here : (foreign : List ℕ → Bool) → AreSessions (empty_among foreign)
+none-here foreign host s h = absurd (cc)
 
 -- the sessions of a world that is reached
-pub sessions-reached : (w : World) → Run empty w → AreSessions w
-sessions-reached w run = sessions-run empty w none-here run
+pub sessions-reached : (w : World) → IsReached w → AreSessions w
+sessions-reached w run = sessions-run (empty_among w.foreign) w (none-here w.foreign) run
+
+-- ---- foreign hosts
+
+-- they stay foreign, and others do not become so
+foreign-step : (w next : World) → Step w next → next.foreign ≡ w.foreign
+foreign-step w _ (Begins host area ours none) = refl
+foreign-step w _ (Asks host s ask reply is other told) = refl
+foreign-step w _ (Delivers host s number message peer fresh reply is sent there told) = refl
+foreign-step w _ (Foreign host s number message status id is sent theirs) = refl
+foreign-step w _ (Comes newer older a s reply under is told) = refl
+foreign-step w _ (Crashes host s flight answers next is flies comes) = refl
+
+pub foreign-run : (first w : World) → Run first w → w.foreign ≡ first.foreign
+foreign-run first _ Stays = refl
+foreign-run first _ (Goes_on w next run step) = foreign-step w next step ∙ foreign-run first w run
+
+pub reached-from : (foreign : List ℕ → Bool) (w : World) → Run (empty_among foreign) w → IsReached w
+reached-from foreign w run = subst (λ f. Run (empty_among f) w) (sym (foreign-run (empty_among foreign) w run)) run
+
+-- where none was at the beginning
+pub alone-reached : (w : World) → Run empty w → IsReached w
+alone-reached w run = reached-from empty.foreign w run
+
+pub alone-ours : (w : World) → Run empty w → (host : List ℕ) → w.foreign host ≡ false
+alone-ours w run host = ap (λ (f : List ℕ → Bool). f host) (foreign-run empty w run)
+
+-- no server of this program has a foreign host
+abbrev AreOurs : World → Type 0
+AreOurs w = (host : List ℕ) (s : Session) → w.session host ≡ Some s → w.foreign host ≡ false
+
+ours-step : (w next : World) → AreOurs w → Step w next → AreOurs next
+ours-step w _ all (Begins host area ours none) = looked w host (new_session area) w.answers (λ x s. w.foreign x ≡ false) ours all
+ours-step w _ all (Asks host s ask reply is other told) = looked w host (with_call s ask reply) w.answers (λ x s. w.foreign x ≡ false) (all host s is) all
+ours-step w _ all (Delivers host s number message peer fresh reply is sent there told) =
+    looked w message.to (with_call peer (letter_ask message.letter fresh) reply) (answer_to host number reply ∷ w.answers) (λ x s. w.foreign x ≡ false) (all message.to peer there) all
+ours-step w _ all (Foreign host s number message status id is sent theirs) = all
+ours-step w _ all (Comes newer older a s reply under is told) = looked w a.host (with_call s (settlement_by a) reply) (newer ++ older) (λ x s. w.foreign x ≡ false) (all a.host s is) all
+ours-step w _ all (Crashes host s flight answers next is flies comes) = looked w host (reopened s next) answers (λ x s. w.foreign x ≡ false) (all host s is) all
+
+ours-run : (foreign : List ℕ → Bool) (w : World) → Run (empty_among foreign) w → AreOurs w
+ours-run foreign _ Stays host s h = absurd (cc)
+ours-run foreign _ (Goes_on w next run step) host s h = ours-step w next (ours-run foreign w run) step host s h
+
+pub ours-reached : (w : World) (host : List ℕ) (s : Session) → IsReached w → w.session host ≡ Some s → w.foreign host ≡ false
+ours-reached w host s reached is = ours-run w.foreign w reached host s is
 
 -- ---- how a session goes on
 
@@ -135,10 +181,11 @@ grows-new w host t answers none other u there = by_test (same_text other host) r
     by_test false e = (u, there, inl refl)
 
 pub grows-step : (w next : World) → AreSessions w → Step w next → Grows w next
-grows-step w _ all (Begins host area none) = grows-new w host (new_session area) w.answers none
+grows-step w _ all (Begins host area ours none) = grows-new w host (new_session area) w.answers none
 grows-step w _ all (Asks host s ask reply is other told) = grows-at w host s (with_call s ask reply) w.answers is (onward-call Any host s ask reply (all host s is) told tt)
 grows-step w _ all (Delivers host s number message peer fresh reply is sent there told) =
     grows-at w message.to peer (with_call peer (letter_ask message.letter fresh) reply) (answer_to host number reply ∷ w.answers) there (onward-call Any message.to peer (letter_ask message.letter fresh) reply (all message.to peer there) told tt)
+grows-step w _ all (Foreign host s number message status id is sent theirs) = λ other t there. (t, there, inl refl)
 grows-step w _ all (Comes newer older a s reply under is told) = grows-at w a.host s (with_call s (settlement_by a) reply) (newer ++ older) is (onward-call Any a.host s (settlement_by a) reply (all a.host s is) told tt)
 grows-step w _ all (Crashes host s flight answers next is flies comes) =
     grows-at w host s (reopened s next) answers is (onward-crash Any host s flight next (all host s is) comes (λ ask e. tt))

@@ -16,9 +16,10 @@ use Rattle.ocm_law_world.specs.Deliveries.{letter_ask}
 use Rattle.ocm_law_world.specs.World.{Answer, IsReached, Session, Step, World, answer_to, changed, history_of, kept_at, reopened, settlement_by, with_call}
 use Rattle.ocm_law_world.specs.World.Flight.{Nothing}
 use Rattle.ocm_law_world.specs.World.Run.{Goes_on}
-use Rattle.ocm_law_world.specs.World.Step.{Begins, Asks, Delivers, Comes, Crashes}
-use Rattle.ocm_law_world.specs.Stories.{CanHappen, CanReturn, Event, Begin, Do, Deliver, Return, Crash, Holds, IsAnswer, IsStory, MessageIsAnswered, after, delivered, happens, returned}
+use Rattle.ocm_law_world.specs.World.Step.{Begins, Asks, Delivers, Foreign, Comes, Crashes}
+use Rattle.ocm_law_world.specs.Stories.{CanHappen, CanReturn, Event, Begin, Do, Deliver, Invent, Return, Crash, Holds, IsAnswer, IsStory, MessageIsAnswered, after, delivered, happens, returned}
 use Rattle.ocm_law_world.proofs.Laws.{legal-reached}
+use Rattle.ocm_law_world.proofs.Steps.{reached-from}
 
 -- what is there
 there : {X : Type 0} (P : X → Type 0) (o : Option X) → Holds P o → (x : X) × (o ≡ Some x) × P x
@@ -52,7 +53,7 @@ step-return w reply (a ∷ older) under can =
     subst P (sym s.1) (Comes [] older a s.0 reply under s.1 (reply-told a.host s.0 (settlement_by a) reply s.2))
 
 step-event : (w : World) (event : Event) → IsReached w → CanHappen w event → Step w (happens w event)
-step-event w (Begin host) reached can = Begins host 100000 can
+step-event w (Begin host) reached can = Begins host 100000 can.0 can.1
 step-event w (Do host ask reply) reached can =
     let s = there (IsAnswer host ask reply) (w.session host) can.1 in
     let P : Option Session → Type 0 = λ o. Step w (option_map_or (λ s. changed w host (with_call s ask reply) w.answers) o w) in
@@ -63,6 +64,10 @@ step-event w (Deliver host number fresh reply) reached can =
     let P : Option Session → Type 0 = λ o. Step w (option_map_or (λ s. option_map_or (delivered w host number fresh reply) (at_number (out host (kept_at host s)) number) w) o w) in
     let Q : Option Message → Type 0 = λ o. Step w (option_map_or (delivered w host number fresh reply) o w) in
     subst P (sym s.1) (subst Q (sym message.1) (step-deliver w host s.0 number fresh reply message.0 s.1 message.1 message.2))
+step-event w (Invent host number status) reached can =
+    let s = there (λ (s : Session). Holds (λ (m : Message). w.foreign m.to ≡ true) (at_number (out host (kept_at host s)) number)) (w.session host) can in
+    let m = there (λ (m : Message). w.foreign m.to ≡ true) (at_number (out host (kept_at host s.0)) number) s.2 in
+    Foreign host s.0 number m.0 status None s.1 m.1 m.2
 step-event w (Return reply) reached can = step-return w reply w.answers refl can
 step-event w (Crash host) reached can =
     let s = there (λ (s : Session). Unit {0}) (w.session host) can in
@@ -74,4 +79,4 @@ step-event w (Crash host) reached can =
 pub story-run : (w : World) (events : List Event) → IsReached w → IsStory w events → IsReached (after w events)
 story-run w [] reached story = reached
 story-run w (event ∷ events) reached story =
-    story-run (happens w event) events (Goes_on w (happens w event) reached (step-event w event reached story.0)) story.1
+    story-run (happens w event) events (reached-from w.foreign (happens w event) (Goes_on w (happens w event) reached (step-event w event reached story.0))) story.1

@@ -10,8 +10,9 @@ use Rattle.ocm_entry.specs.declared.entries.Entry.{Entry}
 use Rattle.ocm_entry.specs.declared.replies.Reply.{Reply}
 use Rattle.ocm_entry.specs.declared.replies.Reply.TheVariants.{Done, Key, Number, Recipient}
 use Rattle.ocm_rules.specs.Cases.{add_alice, add_bob, alice_key, alice_shares, bob, bob_commands, bob_key, first_bytes, host_of_bob, no_bytes, offer_to_bob, our_host, root_path, to_read}
-use Rattle.ocm_law_world.specs.World.{World, empty, kept_at}
-use Rattle.ocm_law_world.specs.Stories.{Event, Begin, Do, Deliver, after}
+use Rattle.ocm_rules.specs.Numbers.{same_text}
+use Rattle.ocm_law_world.specs.World.{World, empty, empty_among, kept_at}
+use Rattle.ocm_law_world.specs.Stories.{Event, Begin, Do, Deliver, Invent, Return, after}
 
 -- the world that a story leads to, and what a host keeps in it; nothing where it has no server
 abbrev pub story : List Event → World
@@ -51,3 +52,10 @@ exaggerated = two_servers ++ alice_shares_all to_read ∷ bob_gets offer_to_bob
 -- bob's acceptance is delivered to alice's server, and replied to so
 abbrev pub acceptance_told : Reply → Event
 acceptance_told reply = Deliver host_of_bob 1 no_bytes reply
+
+-- alice's server is of another program; bob accepts an offer of hers that he got, and her server says yes
+abbrev pub alice_abroad : World
+alice_abroad = empty_among (λ host. same_text host our_host)
+
+abbrev pub confirmed_abroad : List Event
+confirmed_abroad = Begin host_of_bob ∷ Do host_of_bob add_bob (Key bob_key) ∷ bob_gets offer_to_bob ++ Invent host_of_bob 1 201 ∷ Return Done ∷ []

@@ -43,20 +43,21 @@ IsMade w offer = (s : Session) × (w.session offer.owner.host ≡ Some s) × Mak
 
 -- ---- what a guest was told
 
--- These permissions, told with this serial, are what an offer's share let its guest do after the limit of that number: the
--- offer's id names a share with the offer's secret, and of the kept entries the one that is so many limits on is a limit.
+-- These permissions, told with this serial, are what an offer's share let its guest do after the limit of that number: of the
+-- kept entries the one that is so many limits on is a limit, and then the offer's id names a share that is there, with the
+-- offer's secret.
 pub record IsAfterLimit (host : List ℕ) (g : List Entry) (offer : Offer) (told : Told) : Type 0 where
   pub id : ℕ
   pub share : Share
   pub named : named offer.id ≡ Some id
-  pub made : at_number (made host g) id ≡ Some share
-  pub secret : share.secret ≡ offer.secret
   pub later : List Entry
   pub limit : Entry
   pub before : List Entry
   pub stands : g ≡ later ++ limit ∷ before
   pub is_limit : IsTrue (is_limit limit.ask)
   pub number : limits (limit ∷ before) ≡ told.serial
+  pub made : at_number (made host (limit ∷ before)) id ≡ Some share
+  pub secret : share.secret ≡ offer.secret
   pub perms : told.perms ≡ effective host (limit ∷ before) id
 
 -- the server of an offer's owner is there, and one of its messages tells this of the offer's permissions

@@ -10,7 +10,7 @@ use Rattle.ocm_law_sessions.specs.Crashes.{unheard}
 use Rattle.ocm_law_world.specs.Deliveries.{letter_ask}
 use Rattle.ocm_law_world.specs.World.{Run, Step, World, history_of}
 use Rattle.ocm_law_world.specs.World.Run.{Stays, Goes_on}
-use Rattle.ocm_law_world.specs.World.Step.{Begins, Asks, Delivers, Comes, Crashes}
+use Rattle.ocm_law_world.specs.World.Step.{Begins, Asks, Delivers, Foreign, Comes, Crashes}
 use Rattle.ocm_law_world.specs.Guests.{IsSaid, tells}
 
 -- whatever an ask tells of an offer's permissions, the server of the offer's owner has said
@@ -20,10 +20,11 @@ IsOwnersWord w offer ask = (told : Told) → IsTrue (tells offer told ask) → I
 -- At a step from this world, this host takes nothing of an offer's permissions but the owner's word: neither by a call that is
 -- answered so, nor by one that a crash keeps although its answer was not heard.
 abbrev pub HearsInStep : List ℕ → Offer → (w next : World) → Step w next → Type 0
-HearsInStep host offer w _ (Begins other area none) = Unit {0}
+HearsInStep host offer w _ (Begins other area ours none) = Unit {0}
 HearsInStep host offer w _ (Asks other s ask reply is plain told) = other ≡ host → reply ≡ Noticed → IsOwnersWord w offer ask
 HearsInStep host offer w _ (Delivers sender s number message peer fresh reply is sent there told) =
     message.to ≡ host → reply ≡ Noticed → IsOwnersWord w offer (letter_ask message.letter fresh)
+HearsInStep host offer w _ (Foreign sender s number message status id is sent theirs) = Unit {0}
 HearsInStep host offer w _ (Comes newer older a s reply under is told) = Unit {0}
 HearsInStep host offer w _ (Crashes other s flight answers next is flies comes) =
     other ≡ host → (ask : Ask) → unheard other s.base s.calls flight ≡ Some ask

@@ -10,14 +10,16 @@ use Rattle.ocm_rules.specs.History.{answer}
 use Rattle.ocm_rules.specs.Lean.{lean}
 use Rattle.ocm_law_sessions.specs.Sessions.{fault_in, fits}
 use Rattle.ocm_law_world.specs.Deliveries.{letter_ask}
-use Rattle.ocm_law_world.specs.World.{Answer, Session, World, answer_to, changed, history_of, is_settlement, kept_at, new_session, reopened, settlement_by, with_call}
+use Rattle.ocm_law_world.specs.World.{Answer, Session, World, answer_to, changed, history_of, is_settlement, kept_at, new_session, reopened, settlement_by, with_answer, with_call}
 
--- what happens: a server begins; it is asked, and replies; a message of it is delivered, with drawn bytes, and replied to; the
--- last answer that is under way comes, and is replied to; a server crashes, and opens its journal
+-- what happens: a server begins; it is asked, and replies; a message of it is delivered, with drawn bytes, and replied to; a
+-- foreign host answers a message of it, with a status; the last answer that is under way comes, and is replied to; a server
+-- crashes, and opens its journal
 pub data Event : Type 0 where
   Begin : List ℕ → Event
   Do : List ℕ → Ask → Reply → Event
   Deliver : List ℕ → ℕ → List ℕ → Reply → Event
+  Invent : List ℕ → ℕ → ℕ → Event
   Return : Reply → Event
   Crash : List ℕ → Event
 
@@ -36,6 +38,7 @@ abbrev pub happens : World → Event → World
 happens w (Begin host) = changed w host (new_session 100000) w.answers
 happens w (Do host ask reply) = option_map_or (λ s. changed w host (with_call s ask reply) w.answers) (w.session host) w
 happens w (Deliver host number fresh reply) = option_map_or (λ s. option_map_or (delivered w host number fresh reply) (at_number (out host (kept_at host s)) number) w) (w.session host) w
+happens w (Invent host number status) = with_answer w (record { host = host; number = number; status = status; id = None })
 happens w (Return reply) = returned w reply w.answers
 happens w (Crash host) = option_map_or (λ s. changed w host (reopened s (lean host (history_of s))) w.answers) (w.session host) w
 
@@ -63,10 +66,11 @@ CanReturn w reply [] = ⊥
 CanReturn w reply (a ∷ older) = Holds (IsAnswer a.host (settlement_by a) reply) (w.session a.host)
 
 abbrev pub CanHappen : World → Event → Type 0
-CanHappen w (Begin host) = w.session host ≡ None
+CanHappen w (Begin host) = (w.foreign host ≡ false) × (w.session host ≡ None)
 CanHappen w (Do host ask reply) = (is_settlement ask ≡ false) × Holds (IsAnswer host ask reply) (w.session host)
 CanHappen w (Deliver host number fresh reply) =
     Holds (λ (s : Session). Holds (MessageIsAnswered w fresh reply) (at_number (out host (kept_at host s)) number)) (w.session host)
+CanHappen w (Invent host number status) = Holds (λ (s : Session). Holds (λ (m : Message). w.foreign m.to ≡ true) (at_number (out host (kept_at host s)) number)) (w.session host)
 CanHappen w (Return reply) = CanReturn w reply w.answers
 CanHappen w (Crash host) = Holds (λ (s : Session). Unit {0}) (w.session host)
 

@@ -1,13 +1,14 @@
 -- Several servers that send each other messages, and crash. A world knows the session of each server by the server's host,
--- and the answers that are under way. It begins without servers, and goes on by steps: a new server, an ask, a delivery,
--- a crash. Whatever is lost, repeated, late or out of order is a run of such steps.
-use Rattle.std.specs.Prelude.{◌≡◌, ℕ, List, [], ◌∷◌, ◌++◌, Bool, true, false, Option, Some, None, if◌then◌else◌}
+-- the answers that are under way, and which hosts are of other programs. It begins without servers, and goes on by steps:
+-- a new server, an ask, a delivery, a crash. Whatever is lost, repeated, late or out of order is a run of such steps.
+use Rattle.std.specs.Prelude.{◌≡◌, ℕ, List, [], ◌∷◌, ◌++◌, Bool, true, false, ◌||◌, Option, Some, None, if◌then◌else◌}
 use Rattle.ocm_entry.specs.declared.asks.Ask.{Ask}
 use Rattle.ocm_entry.specs.declared.asks.Ask.TheVariants.{Settle}
 use Rattle.ocm_entry.specs.declared.replies.Reply.{Reply}
 use Rattle.ocm_entry.specs.declared.entries.Entry.{Entry}
 use Rattle.ocm_rules.specs.declared.rows.Message.{Message}
 use Rattle.ocm_rules.specs.Numbers.{same_text, at_number}
+use Rattle.ocm_rules.specs.Settlements.{is_success, is_refusal}
 use Rattle.ocm_rules.specs.Messages.{out}
 use Rattle.ocm_rules.specs.History.{kept}
 use Rattle.ocm_law_sessions.specs.Sessions.{IsReply}
@@ -59,23 +60,32 @@ answer_to host number reply = record { host = host; number = number; status = de
 abbrev pub settlement_by : Answer → Ask
 settlement_by a = Settle a.number a.status a.id
 
--- whether an ask settles a message
+-- whether an ask may settle a message: its status says yes or no
 abbrev pub is_settlement : Ask → Bool
-is_settlement (Settle number status id) = true
+is_settlement (Settle number status id) = is_success status || is_refusal status
 is_settlement _ = false
 
--- the sessions of the servers, by their hosts, and the answers that are under way
+-- which hosts are foreign, of other programs, which answer what they will; the sessions of the servers, by their hosts; and
+-- the answers that are under way
 pub record World : Type 0 where
+  pub foreign : List ℕ → Bool
   pub session : List ℕ → Option Session
   pub answers : List Answer
 
--- the world without servers
+-- the world without servers, where these hosts are foreign, and where none is
+abbrev pub empty_among : (List ℕ → Bool) → World
+empty_among foreign = record { foreign = foreign; session = λ host. None; answers = [] }
+
 abbrev pub empty : World
-empty = record { session = λ host. None; answers = [] }
+empty = empty_among (λ host. false)
 
 -- the world in which the server of this host has this session, and these answers are under way
 abbrev pub changed : World → List ℕ → Session → List Answer → World
-changed w host s answers = record { session = λ other. if same_text other host then Some s else w.session other; answers = answers }
+changed w host s answers = record { foreign = w.foreign; session = λ other. if same_text other host then Some s else w.session other; answers = answers }
+
+-- the world in which this answer more is under way
+abbrev pub with_answer : World → Answer → World
+with_answer w a = record { foreign = w.foreign; session = w.session; answers = a ∷ w.answers }
 
 -- ---- steps
 
@@ -89,10 +99,10 @@ pub data Flight (w : World) (host : List ℕ) : Option Ask → List Answer → T
 
 -- What may happen next.
 pub data Step (w : World) : World → Type 0 where
-  -- A server begins: its host is new, and its session empty.
-  Begins : (host : List ℕ) (area : ℕ) → w.session host ≡ None → Step w (changed w host (new_session area) w.answers)
+  -- A server begins: its host is new and not foreign, and its session empty.
+  Begins : (host : List ℕ) (area : ℕ) → w.foreign host ≡ false → w.session host ≡ None → Step w (changed w host (new_session area) w.answers)
   -- Anybody asks a server anything but to settle a message, and is told what its session allows. Forged offers and
-  -- notifications come so.
+  -- notifications come so; and answers that settle nothing, as the 503 of a server whose disk failed or the 502 of a proxy.
   Asks : (host : List ℕ) (s : Session) (ask : Ask) (reply : Reply)
       → w.session host ≡ Some s → is_settlement ask ≡ false → IsReply host s.area s.base s.calls ask reply
       → Step w (changed w host (with_call s ask reply) w.answers)
@@ -102,6 +112,10 @@ pub data Step (w : World) : World → Type 0 where
       → w.session host ≡ Some s → at_number (out host (kept_at host s)) number ≡ Some message
       → w.session message.to ≡ Some peer → IsReply message.to peer.area peer.base peer.calls (letter_ask message.letter fresh) reply
       → Step w (changed w message.to (with_call peer (letter_ask message.letter fresh) reply) (answer_to host number reply ∷ w.answers))
+  -- A foreign host answers a message for it with any status and id, and the answer is under way.
+  Foreign : (host : List ℕ) (s : Session) (number : ℕ) (message : Message) (status : ℕ) (id : Option (List ℕ))
+      → w.session host ≡ Some s → at_number (out host (kept_at host s)) number ≡ Some message → w.foreign message.to ≡ true
+      → Step w (with_answer w (record { host = host; number = number; status = status; id = id }))
   -- An answer comes, at once or later: its server settles the message. An answer that never comes is lost.
   Comes : (newer older : List Answer) (a : Answer) (s : Session) (reply : Reply)
       → w.answers ≡ newer ++ a ∷ older → w.session a.host ≡ Some s → IsReply a.host s.area s.base s.calls (settlement_by a) reply
@@ -116,6 +130,6 @@ pub data Run (first : World) : World → Type 0 where
   Stays : Run first first
   Goes_on : (w next : World) → Run first w → Step w next → Run first next
 
--- a world that a run from the empty one reaches
+-- a world that a run from one without servers reaches
 abbrev pub IsReached : World → Type 0
-IsReached w = Run empty w
+IsReached w = Run (empty_among w.foreign) w

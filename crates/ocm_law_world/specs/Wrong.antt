@@ -1,5 +1,5 @@
 -- Wrong definitions, for each of which a law would be false. They serve the counterexamples alone.
-use Rattle.std.specs.Prelude.{ℕ, List, [], ◌∷◌, ◌++◌, Some, None, if◌then◌else◌, codes, unwrap_or}
+use Rattle.std.specs.Prelude.{ℕ, List, [], ◌∷◌, ◌++◌, Option, Some, None, if◌then◌else◌, codes, unwrap_or}
 use Rattle.std.specs.Option.{option_map_or}
 use Rattle.ocm_types.specs.declared.letters.Notice.TheVariants as notices
 use Rattle.ocm_types.specs.declared.letters.Offer.{Offer}
@@ -10,19 +10,22 @@ use Rattle.ocm_types.specs.Rights.{all_rights}
 use Rattle.ocm_entry.specs.declared.asks.Ask.TheVariants as asks
 use Rattle.ocm_entry.specs.declared.asks.Cmd.TheVariants as commands
 use Rattle.ocm_entry.specs.declared.entries.Entry.{Entry}
+use Rattle.ocm_entry.specs.declared.rows.Grant.{Grant}
 use Rattle.ocm_entry.specs.declared.replies.Reply.{Reply}
 use Rattle.ocm_entry.specs.declared.replies.Reply.TheVariants.{Child, Done, Key, Noticed, Number, Recipient}
 use Rattle.ocm_rules.specs.declared.rows.Told.{Told}
 use Rattle.ocm_rules.specs.Answers.{accepted_reply, share_with}
-use Rattle.ocm_rules.specs.Cases.{add_alice, add_bob, alice_commands, alice_key, alice_shares, bob, bob_key, carol, change_for_bob, first_bytes, first_secret, given, host_of_bob, offer_to_bob, our_host, request_for, root_path, second_bytes, to_read, to_read_and_share, to_write}
+use Rattle.ocm_rules.specs.Cases.{add_alice, add_bob, alice_commands, alice_key, alice_shares, bob, bob_key, carol, change_for_bob, first_bytes, first_secret, given, history, host_of_bob, offer_to_bob, our_host, request_for, root_path, second_bytes, sharing, to_read, to_read_and_share, to_write}
+use Rattle.ocm_rules.specs.Holders.{grant_of, holder_among}
 use Rattle.ocm_rules.specs.Messages.{phase}
 use Rattle.ocm_rules.specs.Numbers.{latest}
 use Rattle.ocm_rules.specs.Offers.{told_by, told_first}
 use Rattle.ocm_rules.specs.State.{is_accepting}
-use Rattle.ocm_rules.specs.Views.{View}
-use Rattle.ocm_law_world.specs.World.{Session, World, changed, reopened}
+use Rattle.ocm_rules.specs.Views.{View, effective_in}
+use Rattle.ocm_law_sessions.specs.Sessions.{heard}
+use Rattle.ocm_law_world.specs.World.{Session, World, changed, history_of, kept_at, reopened}
 use Rattle.ocm_law_world.specs.Stories.{Event, Crash, Do}
-use Rattle.ocm_law_world.specs.Cases.{alice_shares_all, bob_gets, two_servers}
+use Rattle.ocm_law_world.specs.Cases.{accepted, alice_shares_all, bob_gets, kept_in, story, two_servers}
 
 -- a record counts as confirmed as soon as its acceptance is sent
 abbrev pub phase_when_sent : List ℕ → List Entry → ℕ → Phase
@@ -44,9 +47,40 @@ without_calls w host = option_map_or (λ (s : Session). changed w host (reopened
 abbrev pub ended : List Event
 ended = two_servers ++ alice_shares_all all_rights ∷ Crash our_host ∷ Do our_host (alice_commands (commands.Unshare 1)) Done ∷ []
 
+-- alice shares all that she has with bob, whose server gets an offer of it, and he accepts it
+abbrev pub taken : List Event
+taken = two_servers ++ alice_shares_all all_rights ∷ bob_gets offer_to_bob
+
 -- whoever knows the secret tells bob other permissions
 abbrev pub told_by_a_forger : List Event
-told_by_a_forger = two_servers ++ alice_shares_all all_rights ∷ bob_gets offer_to_bob ++ Do host_of_bob (change_for_bob 7 to_write) Noticed ∷ []
+told_by_a_forger = taken ++ Do host_of_bob (change_for_bob 7 to_write) Noticed ∷ []
+
+-- each sender is told that its message was taken, whatever was replied
+abbrev pub told_as_taken : Reply → ℕ
+told_as_taken reply = 201
+
+-- an answer settles its message whatever its status is
+abbrev pub settled_by_failure : List Entry
+settled_by_failure = given (asks.Settle 1 503 None) Done ∷ kept_in (story accepted) host_of_bob
+
+-- a crash keeps what a forger tells bob, although nobody heard the answer to it
+abbrev pub with_unheard : Session → Session
+with_unheard s = reopened s (heard host_of_bob (history_of s) (change_for_bob 7 to_write) ∷ history_of s)
+
+abbrev pub kept_unheard : List Entry
+kept_unheard = option_map_or (λ (s : Session). kept_at host_of_bob (with_unheard s)) ((story taken).session host_of_bob) []
+
+-- a crash loses the call by which alice was added, and keeps the one by which she shares
+abbrev pub later_call_alone : List Entry
+later_call_alone = given (alice_shares root_path bob all_rights first_bytes) (Number 1) ∷ []
+
+-- a secret is let in whose own share goes on, whatever became of the one above it
+abbrev pub grant_by_itself : View → List ℕ → Option Grant
+grant_by_itself v secret = grant_of v.goes_on (effective_in v) (holder_among v.users v.shares secret)
+
+-- alice ends the share below which bob had another made
+abbrev pub parent_ended : List Entry
+parent_ended = history our_host (sharing all_rights ++ request_for carol second_bytes ∷ alice_commands (commands.Unshare 1) ∷ [])
 
 -- alice, and the share that she lets bob have
 abbrev pub alice_shared : Rights → List Entry

@@ -4,11 +4,12 @@ ghost use Rattle.ocm_types.specs.declared.phases.Phase.TheVariants.{Accepting, C
 ghost use Rattle.ocm_entry.specs.declared.refusals.Why.TheVariants.{NotPermitted, UnknownShare};
 ghost use Rattle.ocm_entry.specs.declared.replies.Reply.TheVariants.{Done, Noticed};
 ghost use Rattle.ocm_rules.specs.Answers.{refused};
-ghost use Rattle.ocm_rules.specs.Cases.{host_of_bob, our_host};
+ghost use Rattle.ocm_rules.specs.Cases.{host_of_bob, offer_to_bob, our_host};
 ghost use Rattle.ocm_rules.specs.Messages.{phase};
+ghost use Rattle.ocm_law_world.specs.Guests.{IsMade};
 ghost use Rattle.ocm_law_world.specs.World.{IsReached, World};
 ghost use Rattle.ocm_law_world.specs.Stories.{Crash, Event, IsStory, Return, after};
-ghost use Rattle.ocm_law_world.specs.Cases.{acceptance_told, accepted, exaggerated, forged, kept_in, story};
+ghost use Rattle.ocm_law_world.specs.Cases.{acceptance_told, accepted, alice_abroad, confirmed_abroad, exaggerated, forged, kept_in, story};
 
 /// A story each event of which is a step leads to a world that a run reaches.
 pub fn stories_are_runs()
@@ -40,4 +41,11 @@ pub fn a_forged_offer_is_refused_by_its_owner()
 pub fn an_exaggerated_offer_is_refused_by_its_owner()
     ensures refused { phase host_of_bob (kept_in (story (exaggerated ++ acceptance_told (refused NotPermitted) ∷ Return Done ∷ [])) host_of_bob) 1 ≡ Refused }
     ensures run { IsReached (story (exaggerated ++ acceptance_told (refused NotPermitted) ∷ Return Done ∷ [])) }
+{}
+
+/// A server of another program may say yes to the acceptance of an offer, whatever it has made.
+pub fn a_foreign_server_says_what_it_will()
+    ensures confirmed { phase host_of_bob (kept_in (after alice_abroad confirmed_abroad) host_of_bob) 1 ≡ Confirmed }
+    ensures unmade { IsMade (after alice_abroad confirmed_abroad) offer_to_bob → ⊥ }
+    ensures run { IsReached (after alice_abroad confirmed_abroad) }
 {}

@@ -9,5 +9,6 @@ pub mod cases;
 pub mod grants;
 pub mod guests;
 pub mod revocation;
+pub mod settlements;
 pub mod told;
 pub mod wrong;
