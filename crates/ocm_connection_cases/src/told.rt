@@ -1,0 +1,28 @@
+//! What is told of connections.
+use ocm_case_rows::escaped;
+use ocm_connections::Ended;
+use std::alloc::Global;
+
+/// How many bytes are told whole at most.
+const MOST: usize = 2_000;
+
+/// An ending, and what was written.
+pub fn ended_told(alloc: Global, ended: Ended, written: &[u8]) -> Option<String> {
+    let pages = pages_told(alloc, written)?;
+    format!(in alloc; "{ended:?} [{}]", pages.as_str()).ok()
+}
+
+/// The pages, or of many how many bytes they have, and the last one.
+fn pages_told(alloc: Global, written: &[u8]) -> Option<String> {
+    if written.len() <= MOST {
+        return escaped(alloc, written);
+    }
+    let (_, last) = str::from_utf8(written).ok()?.rsplit_once("HTTP/1.1 ")?;
+    let last = escaped(alloc, last.as_bytes())?;
+    format!(in alloc;
+        "{} bytes, at last HTTP/1.1 {}",
+        written.len(),
+        last.as_str()
+    )
+    .ok()
+}
