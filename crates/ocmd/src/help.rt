@@ -1,7 +1,7 @@
 //! What `help` and `version` write.
 
 /// The commands, the options of `serve` and the exit statuses, on one screen.
-pub const HELP: &[u8] = br"ocmd: a file sharing server after Open Cloud Mesh API 1.1, and its tools
+pub const HELP: &[u8] = br"ocmd: a file sharing server for Open Cloud Mesh API 1.1, and its tools
 
 Usage: ocmd COMMAND ..
 
@@ -13,7 +13,7 @@ Usage: ocmd COMMAND ..
   drill NUMBER EVENTS    run a script made of NUMBER, write its summary
   serve OPTIONS          run a server until it is killed
   dav VERB HOST SECRET PATH
-                         ask a server: get and list write, put reads a file
+                         ask a server: get and list write, put sends the input
   help, --help           write this text
   version, --version     write the version
 
@@ -33,7 +33,7 @@ Options of serve, of which the first three have to be there:
 Exit status:
    0  done                             9  the input is too long
    1  no such command                 10  serve: another host's journal
-   2  a bad line in the input         11  serve: no more connections
+   2  a bad line in the input         11  serve: a door failed
    3  the input can't be read         12  serve: address or file not usable
    4  the output can't be written     13  dav: the exchange failed
    5  out of memory                   14  dav: what came back is no reply
