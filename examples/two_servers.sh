@@ -257,19 +257,26 @@ end TERM "$pid"
 
 head_line 'what is refused at the start'
 is 'a second server on the same file' $'12\nocmd: another server has the disk\'s file' "$(ends second --host "$a" --disk a.journal --admin k --listen 127.0.0.1:0)"
-is 'an address that is taken' $'12\nocmd: the address cannot be listened at' "$(ends taken --host "$a" --disk c.journal --admin k --listen "$a")"
-is 'a folder that is not there' $'12\nocmd: the disk\'s file cannot be opened' "$(ends nowhere --host "$a" --disk no/c.journal --admin k --listen 127.0.0.1:0)"
-is 'no key file' $'12\nocmd: the key file cannot be read' "$(ends nokey --host "$a" --disk c.journal --admin k --listen 127.0.0.1:0 --key-file nothing)"
+is 'an address that is taken' $'12\nocmd: the address cannot be listened at: it is in use' "$(ends taken --host "$a" --disk c.journal --admin k --listen "$a")"
+is 'which makes no file' '' "$(ls c.journal 2>/dev/null)"
+is 'a folder that is not there' $'12\nocmd: the disk\'s file cannot be opened: there is no such file or folder' "$(ends nowhere --host "$a" --disk no/c.journal --admin k --listen 127.0.0.1:0)"
+is 'no key file' $'12\nocmd: the key file cannot be read: there is no such file or folder' "$(ends nokey --host "$a" --disk c.journal --admin k --listen 127.0.0.1:0 --key-file nothing)"
 printf hello >wrong.journal
 is 'a file that is no journal' $'7\nocmd: the disk is not a journal at 0' "$(ends wrong --host "$a" --disk wrong.journal --admin k --listen 127.0.0.1:0)"
 is 'which stays as it is' hello "$(cat wrong.journal)"
-is 'the journal of another host' $'10\nocmd: the disk is the journal of another host' "$(ends other --host other.example --disk probe_a --admin k --listen 127.0.0.1:0)"
+is 'the journal of another host' $'10\nocmd: the disk is the journal of another host, probe.example' "$(ends other --host other.example --disk probe_a --admin k --listen 127.0.0.1:0)"
 usage=$("$program" serve)
 has 'no words' '^usage: ocmd replay\|' "$usage"
 is 'no disk' $'1\n'"$usage" "$(ends words --host a.example --admin k)"
 is 'no workers' $'1\n'"$usage" "$(ends words --host a.example --disk j --admin k --workers 0)"
 is '65 workers' $'1\n'"$usage" "$(ends words --host a.example --disk j --admin k --workers 65)"
 is 'a host that is none' $'1\n'"$usage" "$(ends words --host a_b --disk j --admin k)"
+
+head_line 'a server without a standard error'
+begin mute --host mute.example --disk mute.journal --admin k --listen 127.0.0.1:0
+end TERM "$pid"
+timeout 1 sh -c 'exec "$0" serve --host mute.example --disk mute.journal --admin k --listen 127.0.0.1:0 2>&-' "$program"
+is 'writes no line into its journal' 'host mute.example' "$("$program" audit <mute.journal | head -1)"
 
 head_line 'a server that ends'
 begin last --host last.example --disk last.journal --admin k --listen 127.0.0.1:0 --workers 2 --connections 1

@@ -4,6 +4,7 @@ use Rattle.std.specs.List.{list_all}
 use Rattle.std.specs.Option.{option_map_or}
 use Rattle.std.proofs.lemmas.List.{length-reverse, length-append, reverse-append, reverse-reverse}
 use Rattle.std.proofs.lemmas.Grind.{reverse_onto}
+use Rattle.std.proofs.lemmas.Option.{slice_get-map, slice_get_within}
 use Rattle.std.proofs.lemmas.Bool.{eqb-true, eqb-false, ne_eqb, leb-true, leb-false, le-leb, lt-leb, cases_lt}
 use Rattle.ocm_types.specs.Rights.{both}
 use Rattle.ocm_entry.specs.declared.rows.Share.{Share}
@@ -14,7 +15,8 @@ use Rattle.ocm_rules.specs.State.{row_goes_on}
 use Rattle.ocm_rules.proofs.Numbering.{at_number-beyond}
 use Rattle.ocm_chain.specs.declared.reaches.Reach.{Reach}
 use Rattle.ocm_chain.specs.Lists.{made_of, goes_on_at, IsAmongFirst}
-use Rattle.ocm_chain.specs.Reaches.{least, reach_of, is_closed_at, end_at, end_along, reach_along, reach_at, reach_above, reach_goes_on}
+use Rattle.ocm_chain.specs.Reaches.{least, reach_of, is_closed_at, end_at, end_along, reach_along, reach_at, reach_above, reach_goes_on, AreLower, IsChildless}
+use Rattle.ocm_chain.proofs.Search.{get-there}
 use Rattle.ocm_chain.proofs.Places.{slice_get-last, at_number-front, at_number-map}
 
 -- ---- links, where the shares stand newest first
@@ -160,6 +162,43 @@ along-same a b (x ∷ older) i same = by_case (λ p h. along-same a b older p h)
 pub reach_at-same : (a b : List ShareRow) (i : ℕ) → links (made_of a) i ≡ links (made_of b) i → ((j : ℕ) → j ≤ i → at_number a j ≡ at_number b j) → reach_at a i ≡ reach_at b i
 reach_at-same a b i same rows =
     ap (reach_along a) same ∙ along-same a b (reverse (made_of b)) i (λ j low high. rows j low)
+
+-- ---- what is left apart from a change
+
+-- what is left at a share apart, where those above it are apart and the rows apart are the same
+pub reach-apart : (Apart : ℕ → Type 0) (a b : List ShareRow) → AreLower a → ((i : ℕ) → Apart i → at_number a i ≡ at_number b i)
+    → ((k p : ℕ) (row : ShareRow) → slice_get a k ≡ Some row → row.share.parent ≡ Some p → Apart (suc k) → Apart p)
+    → (n j : ℕ) (row : ShareRow) → j < n → slice_get a j ≡ Some row → Apart (suc j) → reach_at a (suc j) ≡ reach_at b (suc j)
+reach-apart Apart a b lower same above zero j row low at apart = absurd (omega (arith, low))
+reach-apart Apart a b lower same above (suc n) j row low at apart =
+    reach_at-row a j row at (lower j row at)
+    ∙ (ap (reach_of row.closed row.perms row.end) (by_parent (λ i r l t x. reach-apart Apart a b lower same above n i r l t x) row.share.parent refl (lower j row at))
+    ∙ sym (reach_at-row b j row (sym (same (suc j) apart) ∙ at) (lower j row at)))
+  where
+    Again : Type 0
+    Again = (i : ℕ) (r : ShareRow) → i < n → slice_get a i ≡ Some r → Apart (suc i) → reach_at a (suc i) ≡ reach_at b (suc i)
+
+    by_number : Again → (p : ℕ) → row.share.parent ≡ Some p → 1 ≤ p → p ≤ j → reach_at a p ≡ reach_at b p
+    by_number again zero e some high = absurd (omega (arith, some))
+    by_number again (suc i) e some high =
+        let within = slice_get_within a j row at in
+        let there = get-there a i (omega (arith, within, high)) in
+        again i there.0 (omega (arith, high, low)) there.1 (above j (suc i) row at e apart)
+
+    by_parent : Again → (parent : Option ℕ) → row.share.parent ≡ parent → IsAmongFirst j parent → reach_above a parent ≡ reach_above b parent
+    by_parent again None e among = refl
+    by_parent again (Some p) e among = by_number again p e (among p refl).0 (among p refl).1
+
+share-at : (shares : List ShareRow) (k : ℕ) (row : ShareRow) → slice_get shares k ≡ Some row → slice_get (made_of shares) k ≡ Some row.share
+share-at shares k row at = slice_get-map (λ (r : ShareRow). r.share) shares k ∙ ap (λ o. option_map (λ (r : ShareRow). r.share) o) at
+
+-- a change of a share with none below it leaves the same at each other
+pub reach-childless : (a b : List ShareRow) (id : ℕ) → AreLower a → IsChildless (made_of a) id → ((i : ℕ) → (i ≡ id → ⊥) → at_number a i ≡ at_number b i)
+    → (j : ℕ) (row : ShareRow) → slice_get a j ≡ Some row → (suc j ≡ id → ⊥) → reach_at a (suc j) ≡ reach_at b (suc j)
+reach-childless a b id lower childless same j row at other =
+    reach-apart (λ i. i ≡ id → ⊥) a b lower same
+    (λ k p r found e apart here. childless k r.share (share-at a k r found) (e ∙ ap (λ n. Some n) here))
+    (suc j) j row (omega arith) at other
 
 -- ---- whether it goes on
 

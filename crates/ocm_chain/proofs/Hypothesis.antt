@@ -85,12 +85,11 @@ cut-here moment rows after k row reach at there =
     ∙ ap (λ o. reach_goes_on moment row.reach && not (option_map_or (reach_goes_on moment) o false)) there
 
 -- whether one is told of what is left
-told-both : ℕ → Reach → Reach → Bool
+abbrev pub told-both : ℕ → Reach → Reach → Bool
 told-both moment before after = reach_goes_on moment before && is_any after.effective && not (same_rights after.effective before.effective)
 
 told-here : (moment : ℕ) (rows : List Row) (after : List Reach) (k : ℕ) (row : Row) (reach : Reach) → slice_get rows k ≡ Some row → slice_get after k ≡ Some reach
     → is_told_among moment (reaches_of rows) after (suc k) ≡ told-both moment row.reach reach
-unfolding told-both
 told-here moment rows after k row reach at there =
     let test : Option Reach → Option Reach → Bool = λ o p. option_map_or (reach_goes_on moment) o false && is_any (option_map_or (λ (r : Reach). r.effective) p no_rights)
     && not (same_rights (option_map_or (λ (r : Reach). r.effective) p no_rights) (option_map_or (λ (r : Reach). r.effective) o no_rights)) in
@@ -102,8 +101,7 @@ told-cases true false true rights = refl
 told-cases true false false rights = refl
 told-cases false any same rights = refl
 
-told_by-is : (moment : ℕ) (before after : Reach) → told_by moment before after ≡ (if told-both moment before after then Some after.effective else None)
-unfolding told-both
+pub told_by-is : (moment : ℕ) (before after : Reach) → told_by moment before after ≡ (if told-both moment before after then Some after.effective else None)
 told_by-is moment before after = told-cases (reach_goes_on moment before) (is_any after.effective) (same_rights after.effective before.effective) after.effective
 
 told-some : (b : Bool) (e p : Rights) → Some p ≡ (if b then Some e else None) → (b ≡ true) × (p ≡ e)
@@ -171,7 +169,7 @@ made-numbered id rights closed n (row ∷ shares) =
     ap (λ m. m ∷ made_of (map_numbered (λ j (r : ShareRow). if nat_eq id j then record r { perms = rights; closed = closed } else r) (n + 1) shares)) (share-kept (nat_eq id n) row rights closed)
     ∙ ap (λ ms. row.share ∷ ms) (made-numbered id rights closed (n + 1) shares)
 
-made-with : (shares : List ShareRow) (id : ℕ) (rights : Rights) (closed : Bool) → made_of (with_own shares id rights closed) ≡ made_of shares
+pub made-with : (shares : List ShareRow) (id : ℕ) (rights : Rights) (closed : Bool) → made_of (with_own shares id rights closed) ≡ made_of shares
 made-with shares id rights closed = made-numbered id rights closed 1 shares
 
 list_all-same : (p q : ℕ → Bool) → ((i : ℕ) → p i ≡ q i) → (ns : List ℕ) → list_all p ns ≡ list_all q ns
@@ -210,7 +208,7 @@ goes_on-with moment shares id row rights there i = ap (λ o. option_map_or (row_
         plain None = refl
         plain (Some r) = refl
 
-live-with : (moment : ℕ) (shares : List ShareRow) (id : ℕ) (row : ShareRow) (rights : Rights) → at_number shares id ≡ Some row → (i : ℕ)
+pub live-with : (moment : ℕ) (shares : List ShareRow) (id : ℕ) (row : ShareRow) (rights : Rights) → at_number shares id ≡ Some row → (i : ℕ)
     → is_live_at moment (with_own shares id rights true) i ≡ is_live_without moment shares id i
 live-with moment shares id row rights there i =
     let hyp = with_own shares id rights true in
@@ -238,7 +236,7 @@ perms-with shares id row rights closed there i = ap (λ o. option_map_or (λ (r 
         let other = eqb-false id i e in
         plain (at_number shares i) ∙ ap (λ t. if t then rights else perms_at shares i) (sym (ne_eqb i id (λ h. other (sym h))))
 
-effective-with : (shares : List ShareRow) (id : ℕ) (row : ShareRow) (rights : Rights) (closed : Bool) → at_number shares id ≡ Some row → (i : ℕ)
+pub effective-with : (shares : List ShareRow) (id : ℕ) (row : ShareRow) (rights : Rights) (closed : Bool) → at_number shares id ≡ Some row → (i : ℕ)
     → effective_at (with_own shares id rights closed) i ≡ effective_with shares id rights i
 effective-with shares id row rights closed there i =
     let hyp = with_own shares id rights closed in

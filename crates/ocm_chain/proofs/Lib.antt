@@ -7,3 +7,4 @@ pub mod LiveShares
 pub mod OneMore
 pub mod OwnNumbers
 pub mod Hypothesis
+pub mod Alone

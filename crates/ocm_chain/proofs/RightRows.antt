@@ -1,4 +1,4 @@
-use Rattle.std.proofs.Common.{◌≡◌, ℕ, zero, suc, ◌+◌, ◌-◌, ◌<◌, ◌≤◌, List, [], ◌∷◌, ◌++◌, length, get_or, refl, sym, ap, subst, ◌∙◌, ◌⊎◌, inl, inr, arith}
+use Rattle.std.proofs.Common.{◌≡◌, ℕ, zero, suc, ◌+◌, ◌-◌, ◌<◌, ◌≤◌, List, [], ◌∷◌, ◌++◌, length, get_or, Bool, true, false, refl, sym, ap, subst, ◌∙◌, ◌⊎◌, inl, inr, arith}
 use Rattle.std.specs.Prelude.{Option, Some, None, slice_get, slice_set, option_map}
 use Rattle.std.proofs.lemmas.List.{length-append, length-map, map-append}
 use Rattle.std.proofs.lemmas.Option.{slice_get-map, slice_get_within, slice_get-get_or}
@@ -12,14 +12,27 @@ use Rattle.ocm_rules.proofs.Searches.{some-same}
 use Rattle.ocm_rules.proofs.Steps.{changed_at-set}
 use Rattle.ocm_chain.specs.declared.reaches.Row.{Row}
 use Rattle.ocm_chain.specs.Lists.{made_of, IsAmongFirst}
-use Rattle.ocm_chain.specs.Reaches.{reach_of, reach_at, reach_above, owns, IsRightAt, AreLower, AreRight, AreRows}
+use Rattle.ocm_chain.specs.Reaches.{reach_of, reach_at, reach_above, owns, marks_of, IsRightAt, AreLower, AreRight, AreRightFrom, AreMarked, AreRows, IsChildless}
+use Rattle.ocm_chain.specs.Hypotheses.{reaches_of}
 use Rattle.ocm_chain.proofs.Search.{get-there}
 use Rattle.ocm_chain.proofs.Places.{at_number-place, slice_get-front, slice_get-last, at_number-front, slice_get-set, slice_get-other, length-slice_set, map-same_set, map-slice_set}
-use Rattle.ocm_chain.proofs.ChainLinks.{links-front, reach_at-row, reach_at-same}
+use Rattle.ocm_chain.proofs.ChainLinks.{links-front, reach_at-row, reach_at-same, reach-childless}
 
 -- the own part of a row
 pub own-at : (rows : List Row) (k : ℕ) (row : Row) → slice_get rows k ≡ Some row → slice_get (owns rows) k ≡ Some row.own
 own-at rows k row at = slice_get-map (λ (r : Row). r.own) rows k ∙ ap (λ o. option_map (λ (r : Row). r.own) o) at
+
+-- and its mark
+pub mark-at : (rows : List Row) (k : ℕ) (row : Row) → slice_get rows k ≡ Some row → slice_get (marks_of rows) k ≡ Some row.is_parent
+mark-at rows k row at = slice_get-map (λ (r : Row). r.is_parent) rows k ∙ ap (λ o. option_map (λ (r : Row). r.is_parent) o) at
+
+-- the row of a share
+share-row : (shares : List ShareRow) (k : ℕ) (share : Share) → slice_get (made_of shares) k ≡ Some share → (row : ShareRow) × (slice_get shares k ≡ Some row) × (row.share ≡ share)
+share-row shares k share at =
+    let within = slice_get_within (made_of shares) k share at in
+    let many = length-map shares (λ (r : ShareRow). r.share) in
+    let one = get-there shares k (omega (arith, within, many)) in
+    (one.0, one.1, some-same one.0.share share (sym (slice_get-map (λ (r : ShareRow). r.share) shares k ∙ ap (λ o. option_map (λ (r : ShareRow). r.share) o) one.1) ∙ at))
 
 -- the row of a parent among the first tells what is left at its share
 pub right-among : (rows : List Row) (n : ℕ) → AreRight rows n → n ≤ length rows → (parent : Option ℕ) → IsAmongFirst n parent → (p : ℕ) → parent ≡ Some p → IsRightAt rows p
@@ -53,6 +66,24 @@ right-settled rows k row next at own reach right j found low there =
         let same : k ≡ j = omega (arith, ge, low) in
         let here : next ≡ found = some-same next found (sym (slice_get-set rows k row next at) ∙ ap (slice_get (slice_set rows k next)) same ∙ there) in
         ap (λ (r : Row). r.reach) (sym here) ∙ (reach ∙ ap (λ i. reach_at (owns rows) (suc i)) same)
+
+-- and those behind still tell it
+pub right-behind : (rows : List Row) (k to : ℕ) (row next : Row) → slice_get rows k ≡ Some row → next.own ≡ row.own → k < to → AreRightFrom rows to → AreRightFrom (slice_set rows k next) to
+right-behind rows k to row next at own low right j found high there =
+    right j found high (sym (slice_get-other rows k j next (λ e. absurd (omega (arith, e, low, high)))) ∙ there)
+    ∙ ap (λ (shares : List ShareRow). reach_at shares (suc j)) (sym (owns-settled rows k row next at own))
+
+-- a row with another reach has the same mark
+pub marks-settled : (rows : List Row) (k : ℕ) (row next : Row) → slice_get rows k ≡ Some row → next.is_parent ≡ row.is_parent → marks_of (slice_set rows k next) ≡ marks_of rows
+marks-settled rows k row next at mark = map-same_set (λ (r : Row). r.is_parent) rows k row next at mark
+
+-- where the rows up to an index tell what is left, and those from it on, all do
+pub right-all : (rows : List Row) (n : ℕ) → AreRight rows n → AreRightFrom rows n → AreRight rows (length rows)
+right-all rows n before behind j found low there = by_case (cases_lt j n)
+  where
+    by_case : (j < n) ⊎ (n ≤ j) → found.reach ≡ reach_at (owns rows) (suc j)
+    by_case (inl lt) = before j found lt there
+    by_case (inr ge) = behind j found ge there
 
 -- ---- a row is changed
 
@@ -95,24 +126,44 @@ right-changed rows k row next at share right j found low there =
     same zero high = refl
     same (suc i) high = sym (ap (λ l. slice_get l i) (owns-changed rows k next) ∙ slice_get-other (owns rows) k i next.own (λ e. absurd (omega (arith, e, high, low))))
 
+-- the rows apart from a change with none below it still tell what is left
+pub right-apart : (rows : List Row) (k to : ℕ) (row next : Row) → AreRows rows → slice_get rows k ≡ Some row → next.own.share ≡ row.own.share → k < to
+    → (to < length rows → IsChildless (made_of (owns rows)) (suc k)) → AreRightFrom (slice_set rows k next) to
+right-apart rows k to row next h at share low apart j found high there =
+    let before : slice_get rows j ≡ Some found = sym (slice_get-other rows k j next (λ e. absurd (omega (arith, e, low, high)))) ∙ there in
+    let within = slice_get_within rows j found before in
+    h.right j found within before
+    ∙ reach-childless (owns rows) (owns (slice_set rows k next)) (suc k) h.lower (apart (omega (arith, within, high))) same j found.own (own-at rows j found before) (λ e. absurd (omega (arith, e, low, high)))
+  where
+    same : (i : ℕ) → (i ≡ suc k → ⊥) → at_number (owns rows) i ≡ at_number (owns (slice_set rows k next)) i
+    same zero other = refl
+    same (suc i) other = sym (ap (λ l. slice_get l i) (owns-changed rows k next) ∙ slice_get-other (owns rows) k i next.own (λ e. other (ap (λ n. suc n) e)))
+
 -- what is read at a place stands there
 pub read-at : (rows : List Row) (k : ℕ) (row : Row) → k < length rows → row ≡ get_or rows k row → slice_get rows k ≡ Some row
 read-at rows k row within read = slice_get-get_or rows k row within ∙ ap (λ (r : Row). Some r) (sym read)
 
 -- rows that can be settled from an index on
-pub record IsReady (given : List Row) (k : ℕ) : Type 0 where
+pub record IsReady (given : List Row) (k to : ℕ) : Type 0 where
   pub lower : AreLower (owns given)
-  pub right : AreRight given k
+  pub before : AreRight given k
+  pub behind : AreRightFrom given to
 
-pub ready : (rows given : List Row) (k : ℕ) (row next : Row) → AreRows rows → slice_get rows k ≡ Some row → next.own.share ≡ row.own.share → given ≡ slice_set rows k next → IsReady given k
-ready rows given k row next h at share e =
+pub ready : (rows given : List Row) (k to : ℕ) (row next : Row) → AreRows rows → slice_get rows k ≡ Some row → next.own.share ≡ row.own.share → k < to
+    → (to < length rows → IsChildless (made_of (owns rows)) (suc k)) → given ≡ slice_set rows k next → IsReady given k to
+ready rows given k to row next h at share low apart e =
     let within = slice_get_within rows k row at in
     let before : AreRight rows k = λ j found low there. h.right j found (omega (arith, low, within)) there in
-    let P : List Row → Type 0 = λ rs. IsReady rs k in
+    let P : List Row → Type 0 = λ rs. IsReady rs k to in
     subst P (sym e) (record {
       lower = lower-made (owns (slice_set rows k next)) (owns rows) (made-changed rows k row next at share) h.lower;
-      right = right-changed rows k row next at share before;
+      before = right-changed rows k row next at share before;
+      behind = right-apart rows k to row next h at share low apart;
     })
+
+-- the marks stay where the shares stay
+marks-same : (a b : List ShareRow) (rows more : List Row) → made_of b ≡ made_of a → marks_of more ≡ marks_of rows → AreMarked (made_of a) (marks_of rows) → AreMarked (made_of b) (marks_of more)
+marks-same a b rows more made marks h = let P : List Share → List Bool → Type 0 = λ ms bs. AreMarked ms bs in rw (made, marks) h
 
 -- rows that were settled after a change of one of them
 pub record IsChanged (rows settled : List Row) (id : ℕ) (change : ShareRow → ShareRow) : Type 0 where
@@ -121,15 +172,16 @@ pub record IsChanged (rows settled : List Row) (id : ℕ) (change : ShareRow →
   pub made : made_of (owns settled) ≡ made_of (owns rows)
 
 pub changed : (rows given settled : List Row) (id : ℕ) (row next : Row) (change : ShareRow → ShareRow) → AreRows rows → 1 ≤ id → slice_get rows (id - 1) ≡ Some row
-    → next.own ≡ change row.own → next.own.share ≡ row.own.share → given ≡ slice_set rows (id - 1) next
-    → owns settled ≡ owns given → AreRight settled (length settled) → length settled ≡ length given → IsChanged rows settled id change
-changed rows given settled id row next change h low at own share e same right as_many =
+    → next.own ≡ change row.own → next.own.share ≡ row.own.share → next.is_parent ≡ row.is_parent → given ≡ slice_set rows (id - 1) next
+    → owns settled ≡ owns given → marks_of settled ≡ marks_of given → AreRight settled (length settled) → length settled ≡ length given → IsChanged rows settled id change
+changed rows given settled id row next change h low at own share mark e same marked right as_many =
     let number : id - 1 + 1 ≡ id = omega (arith, low) in
     let given_is : owns settled ≡ owns (slice_set rows (id - 1) next) = same ∙ ap owns e in
     let made = ap made_of given_is ∙ made-changed rows (id - 1) row next at share in
     let many = as_many ∙ (ap length e ∙ length-slice_set rows (id - 1) next) in
+    let marks = marked ∙ (ap marks_of e ∙ marks-settled rows (id - 1) row next at mark) in
     record {
-      are = record { few = omega (arith, many, h.few); lower = lower-made (owns settled) (owns rows) made h.lower; right = right };
+      are = record { few = omega (arith, many, h.few); lower = lower-made (owns settled) (owns rows) made h.lower; right = right; marks = marks-same (owns rows) (owns settled) rows settled made marks h.marks };
       shares = given_is ∙ (owns-changed_at rows (id - 1) row next change at own ∙ ap (λ i. changed_at i change (owns rows)) number);
       made = made;
     }
@@ -152,15 +204,62 @@ reach-number rows id row h low at =
 pub own-number : (rows : List Row) (id : ℕ) (row : Row) → 1 ≤ id → slice_get rows (id - 1) ≡ Some row → at_number (owns rows) id ≡ Some row.own
 own-number rows id row low at = at_number-place (owns rows) id low ∙ own-at rows (id - 1) row at
 
+-- what is said of the row at a place is said of its number
+pub childless-number : (rows : List Row) (id : ℕ) (row : Row) → AreRows rows → 1 ≤ id → slice_get rows (id - 1) ≡ Some row → row.is_parent ≡ false → IsChildless (made_of (owns rows)) id
+childless-number rows id row h low at none =
+    h.marks id (at_number-place (marks_of rows) id low ∙ mark-at rows (id - 1) row at ∙ ap (λ b. Some b) none)
+
+-- ---- a parent is marked
+
+-- the row of a parent is marked
+pub marked-here : (rows : List Row) (p q : ℕ) (row next : Row) → Some p ≡ Some q → 1 ≤ p → slice_get rows (p - 1) ≡ Some row → next.is_parent ≡ true → at_number (marks_of (slice_set rows (p - 1) next)) q ≡ Some true
+marked-here rows p q row next e low at mark =
+    let marked = slice_set rows (p - 1) next in
+    ap (λ i. at_number (marks_of marked) i) (sym (some-same p q e))
+    ∙ (at_number-place (marks_of marked) p low ∙ (mark-at marked (p - 1) next (slice_get-set rows (p - 1) row next at) ∙ ap (λ b. Some b) mark))
+
+-- and no other
+pub marked-other : (rows : List Row) (p i : ℕ) (next : Row) → 1 ≤ p → (Some p ≡ Some i → ⊥) → at_number (marks_of (slice_set rows (p - 1) next)) i ≡ at_number (marks_of rows) i
+marked-other rows p zero next low other = refl
+marked-other rows p (suc i) next low other =
+    ap (λ l. slice_get l i) (map-slice_set (λ (r : Row). r.is_parent) rows (p - 1) next)
+    ∙ slice_get-other (marks_of rows) (p - 1) i next.is_parent (λ e. let same : p ≡ suc i = omega (arith, e, low) in other (ap (λ n. Some n) same))
+
+-- rows of which one more is marked
+pub rows-marked : (rows marked : List Row) (parent : Option ℕ) → AreRows rows → owns marked ≡ owns rows → reaches_of marked ≡ reaches_of rows
+    → ((p : ℕ) → parent ≡ Some p → at_number (marks_of marked) p ≡ Some true) → ((i : ℕ) → (parent ≡ Some i → ⊥) → at_number (marks_of marked) i ≡ at_number (marks_of rows) i) → AreRows marked
+rows-marked rows marked parent h own reaches here others = record {
+  few = omega (arith, many, h.few);
+  lower = rw own h.lower;
+  right = right;
+  marks = λ id none. rw own (h.marks id (sym (others id (λ e. absurd (not-both (at_number (marks_of marked) id) (here id e) none))) ∙ none));
+}
+  where
+    many : length marked ≡ length rows
+    many = sym (length-map marked (λ (r : Row). r.own)) ∙ (ap length own ∙ length-map rows (λ (r : Row). r.own))
+
+    not-both : (o : Option Bool) → o ≡ Some true → o ≡ Some false → ⊥
+    not-both o t f = absurd (cc)
+
+    right : AreRight marked (length marked)
+    right k row low at =
+        let one = get-there rows k (omega (arith, low, many)) in
+        let mine : slice_get (reaches_of marked) k ≡ Some row.reach = slice_get-map (λ (r : Row). r.reach) marked k ∙ ap (λ o. option_map (λ (r : Row). r.reach) o) at in
+        let theirs : slice_get (reaches_of rows) k ≡ Some one.0.reach = slice_get-map (λ (r : Row). r.reach) rows k ∙ ap (λ o. option_map (λ (r : Row). r.reach) o) one.1 in
+        some-same row.reach one.0.reach (sym mine ∙ (ap (λ l. slice_get l k) reaches ∙ theirs))
+        ∙ (h.right k one.0 (omega (arith, low, many)) one.1 ∙ ap (λ (shares : List ShareRow). reach_at shares (suc k)) (sym own))
+
 -- ---- one row more
 
 -- one row more that tells what is left
 pub rows-more : (rows : List Row) (row : Row) → AreRows rows → length rows < 65536 → IsAmongFirst (length (owns rows)) row.own.share.parent
+    → ((p : ℕ) → row.own.share.parent ≡ Some p → at_number (marks_of rows) p ≡ Some true)
     → row.reach ≡ reach_of row.own.closed row.own.perms row.own.end (reach_above (owns rows) row.own.share.parent) → AreRows (rows ++ row ∷ [])
-rows-more rows row h few parent reach = record {
+rows-more rows row h few parent marked reach = record {
   few = let as_many = length-append rows (row ∷ []) in omega (arith, as_many, few);
   lower = lower;
   right = right;
+  marks = marks;
 }
   where
     pushed : owns (rows ++ row ∷ []) ≡ owns rows ++ row.own ∷ []
@@ -192,6 +291,27 @@ rows-more rows row h few parent reach = record {
             let same : row.own ≡ own = some-same row.own own (sym (slice_get-last (owns rows) row.own) ∙ ap (slice_get (owns rows ++ row.own ∷ [])) (sym last) ∙ found) in
             let P : ShareRow → Type 0 = λ o. IsAmongFirst k o.share.parent in
             subst P same (let Q : ℕ → Type 0 = λ n. IsAmongFirst n row.own.share.parent in subst Q (sym last) parent)
+
+    marks : AreMarked (made_of (owns (rows ++ row ∷ []))) (marks_of (rows ++ row ∷ []))
+    marks id none k share at e =
+        let one = share-row (owns (rows ++ row ∷ [])) k share at in
+        let among = lower k one.0 one.1 id (ap (λ (s : Share). s.parent) one.2 ∙ e) in
+        let below = slice_get_within (owns (rows ++ row ∷ [])) k one.0 one.1 in
+        let longer = length-append rows (row ∷ []) in
+        let all = length-map (rows ++ row ∷ []) (λ (r : Row). r.own) in
+        let last : k ≤ length rows = omega (arith, below, longer, all) in
+        let marks_many = length-map rows (λ (r : Row). r.is_parent) in
+        let said : at_number (marks_of rows) id ≡ Some false =
+        sym (ap (λ l. at_number l id) (map-append (λ (r : Row). r.is_parent) rows (row ∷ [])) ∙ at_number-front (marks_of rows) row.is_parent id (omega (arith, among.1, last, marks_many))) ∙ none in
+        by_case said (ap (λ l. slice_get l k) (sym made) ∙ at) last (cases_lt k (length rows))
+      where
+        by_case : at_number (marks_of rows) id ≡ Some false → slice_get (made_of (owns rows) ++ row.own.share ∷ []) k ≡ Some share → k ≤ length rows → (k < length rows) ⊎ (length rows ≤ k) → ⊥
+        by_case said found high (inl lt) = h.marks id said k share (sym (slice_get-front (made_of (owns rows)) row.own.share k (omega (arith, lt, many, as_many))) ∙ found) e
+        by_case said found high (inr ge) =
+            let last : k ≡ length (made_of (owns rows)) = omega (arith, ge, high, many, as_many) in
+            let same : row.own.share ≡ share = some-same row.own.share share (sym (slice_get-last (made_of (owns rows)) row.own.share) ∙ ap (slice_get (made_of (owns rows) ++ row.own.share ∷ [])) (sym last) ∙ found) in
+            let here = marked id (ap (λ (s : Share). s.parent) same ∙ e) in
+            absurd (cc)
 
     same_reach : (i : ℕ) → i ≤ length rows → reach_at (owns rows) i ≡ reach_at (owns (rows ++ row ∷ [])) i
     same_reach i high =

@@ -1,4 +1,4 @@
-use Rattle.std.specs.Prelude.{◌≡◌, ℕ, suc, List, length, map, slice_get, Bool, false, not, ◌&&◌, Option, Some, None, if◌then◌else◌}
+use Rattle.std.specs.Prelude.{◌≡◌, ℕ, suc, List, [], ◌∷◌, length, map, slice_get, Bool, false, not, ◌&&◌, Option, Some, None, if◌then◌else◌}
 use Rattle.std.specs.Option.{option_map_or}
 use Rattle.ocm_types.specs.declared.rights.Rights.{Rights}
 use Rattle.ocm_types.specs.Rights.{is_any, perms_from}
@@ -52,6 +52,11 @@ is_told_among moment before after i =
 -- what the guest of a share may do after
 abbrev pub change_among : List Reach → ℕ → Change
 change_among after i = record { id = i; perms = effective_of after i }
+
+-- what the guest of one share is told, where that is anything
+abbrev pub change_alone : ℕ → Option Rights → List Change
+change_alone id None = []
+change_alone id (Some rights) = record { id = id; perms = rights } ∷ []
 
 -- what is left, row by row
 abbrev pub reaches_of : List Row → List Reach

@@ -4,6 +4,7 @@ use Rattle.std.specs.HashMap as hash
 use Rattle.std.specs.HashMap.{HashMap}
 use Rattle.std.specs.declared.hash.FoldHasher.{FoldHasher}
 use Rattle.std.specs.declared.hash.BuildHasherDefault.{BuildHasherDefault}
+use Rattle.ocm_limits.specs.Limits.{most_shares}
 use Rattle.ocm_chain.specs.declared.owners.OwnedLink.{OwnedLink}
 
 -- the owners of the shares, and how many more can be added without memory
@@ -30,6 +31,6 @@ last_up owners owner (suc k) = if owns_at owners owner k then suc k else last_up
 
 -- each link leads to the owner's share before it, and the map to the owner's last
 pub record IsOwnerIndex (links : List OwnedLink) (last : HashMap ℕ ℕ (BuildHasherDefault FoldHasher)) : Type 0 where
-  pub few : length links ≤ 65536
+  pub few : length links ≤ most_shares
   pub lasts : (owner : ℕ) → unwrap_or (hash.get nat_eq last owner) 0 ≡ last_up (owners_of links) owner (length links)
   pub earlier : (k : ℕ) (link : OwnedLink) → slice_get links k ≡ Some link → link.earlier ≡ last_up (owners_of links) link.owner k

@@ -1,6 +1,7 @@
 use Rattle.std.specs.Prelude.{◌≡◌, ℕ, suc, ◌<◌, ◌≤◌, List, [], ◌∷◌, length, map, min, nat_le, slice_get, Bool, true, false, not, ◌&&◌, Option, Some, None}
 use Rattle.std.specs.List.{list_all}
 use Rattle.std.specs.Option.{option_map_or}
+use Rattle.ocm_limits.specs.Limits.{most_shares}
 use Rattle.ocm_types.specs.declared.rights.Rights.{Rights}
 use Rattle.ocm_types.specs.Rights.{all_rights, both}
 use Rattle.ocm_entry.specs.declared.rows.Share.{Share}
@@ -78,15 +79,32 @@ AreLower shares = (k : ℕ) (row : ShareRow) → slice_get shares k ≡ Some row
 abbrev pub AreRight : List Row → ℕ → Type 0
 AreRight rows n = (k : ℕ) (row : Row) → k < n → slice_get rows k ≡ Some row → row.reach ≡ reach_at (owns rows) (suc k)
 
+-- and those from an index on
+abbrev pub AreRightFrom : List Row → ℕ → Type 0
+AreRightFrom rows n = (k : ℕ) (row : Row) → n ≤ k → slice_get rows k ≡ Some row → row.reach ≡ reach_at (owns rows) (suc k)
+
+-- no share has this parent
+abbrev pub IsChildless : List Share → ℕ → Type 0
+IsChildless made id = (k : ℕ) (share : Share) → slice_get made k ≡ Some share → share.parent ≡ Some id → ⊥
+
+-- which rows say that a share was made directly below them
+abbrev pub marks_of : List Row → List Bool
+marks_of rows = map (λ (row : Row). row.is_parent) rows
+
+-- a share that is not marked is no share's parent
+abbrev pub AreMarked : List Share → List Bool → Type 0
+AreMarked made marks = (id : ℕ) → at_number marks id ≡ Some false → IsChildless made id
+
 -- the row of this number is there and tells what is left at its share
 abbrev pub IsRightAt : List Row → ℕ → Type 0
 IsRightAt rows i = (row : Row) × (at_number rows i ≡ Some row) × (row.reach ≡ reach_at (owns rows) i)
 
--- rows in which each parent is earlier, and that all tell what is left
+-- rows in which each parent is earlier and marked, and that all tell what is left
 pub record AreRows (rows : List Row) : Type 0 where
-  pub few : length rows ≤ 65536
+  pub few : length rows ≤ most_shares
   pub lower : AreLower (owns rows)
   pub right : AreRight rows (length rows)
+  pub marks : AreMarked (made_of (owns rows)) (marks_of rows)
 
 -- what callers see of the rows, and how many more can be added without memory
 pub record RowLists : Type 0 where

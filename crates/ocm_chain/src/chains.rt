@@ -1,4 +1,5 @@
 ghost use Rattle.std.specs.Prelude.{◌≡◌, ◌<◌, ◌≤◌, ◌+◌, ◌*◌, ◌^◌, ◌-◌, ◌++◌, ◌∷◌, [], length, true, Some, None, OnOk, IfOk, option_copied};
+ghost use Rattle.ocm_limits.specs.Limits.{most_shares};
 ghost use Rattle.ocm_rules.specs.declared.rows.ShareRow.{ShareRow};
 ghost use Rattle.ocm_rules.specs.Answers.{is_for_request};
 ghost use Rattle.ocm_rules.specs.Numbers.{at_number, number_of};
@@ -195,7 +196,8 @@ impl Chain {
     }
 
     /// The numbers of the live shares that closing this one takes, ascending, its own first where it
-    /// is live. It goes over all shares.
+    /// is live. It looks at this share alone where none was made below it, and goes over all shares
+    /// else.
     pub fn cut_by(&self, id: u32) -> Result<List<u32>, NoMemory>
         requires low { 1 ≤ id }
         requires high { id ≤ length self.now.shares }
@@ -205,8 +207,8 @@ impl Chain {
     }
 
     /// What the guests are told once this share is limited to these permissions, by number, ascending:
-    /// those of live shares who may do something afterwards, and something else than before. It goes
-    /// over all shares.
+    /// those of live shares who may do something afterwards, and something else than before. It looks
+    /// at this share alone where none was made below it, and goes over all shares else.
     pub fn changed(&self, id: u32, perms: Perms) -> Result<List<Change>, NoMemory>
         requires low { 1 ≤ id }
         requires high { id ≤ length self.now.shares }
@@ -232,7 +234,7 @@ impl Chain {
     /// Makes a share, and gives its number. The secret is no share's, and a parent is one of the shares.
     pub fn make(&mut self, planned: PlannedShare) -> u32
         requires room { 0 < self.old.room }
-        requires few { length self.old.shares < 65536 }
+        requires few { length self.old.shares < most_shares }
         requires secret { share_of_secret (made_of self.old.shares) planned.secret ≡ None }
         requires parent { IsAmongFirst (length self.old.shares) planned.parent }
         ensures number { result ≡ length self.new.shares }
@@ -249,7 +251,8 @@ impl Chain {
         number
     }
 
-    /// Closes a share. What is left of the shares from this one on is settled anew, in one pass.
+    /// Closes a share. What is left of it is settled anew; where one was made below it, what is left of
+    /// each share behind it too, in one pass.
     pub fn close(&mut self, id: u32)
         requires low { 1 ≤ id }
         requires high { id ≤ length self.old.shares }
@@ -260,8 +263,8 @@ impl Chain {
         self.rows.close(id);
     }
 
-    /// Limits a share to these permissions, in the place of those that it had. What is left of the
-    /// shares from this one on is settled anew, in one pass.
+    /// Limits a share to these permissions, in the place of those that it had. What is left of it is
+    /// settled anew; where one was made below it, what is left of each share behind it too, in one pass.
     pub fn limit(&mut self, id: u32, perms: Perms)
         requires low { 1 ≤ id }
         requires high { id ≤ length self.old.shares }
@@ -272,8 +275,8 @@ impl Chain {
         self.rows.limit(id, perms);
     }
 
-    /// Lets a share end at a moment, in the place of the end that it had. What is left of the shares
-    /// from this one on is settled anew, in one pass.
+    /// Lets a share end at a moment, in the place of the end that it had. What is left of it is settled
+    /// anew; where one was made below it, what is left of each share behind it too, in one pass.
     pub fn expire(&mut self, id: u32, until: u64)
         requires low { 1 ≤ id }
         requires high { id ≤ length self.old.shares }

@@ -1,13 +1,15 @@
 //! What would be, were a share closed or limited.
-ghost use Rattle.std.specs.Prelude.{◌≡◌, ◌<◌, ◌≤◌, ℕ, suc, length, List, Some, IfOk, filter, map};
+ghost use Rattle.std.specs.Prelude.{◌≡◌, ◌<◌, ◌≤◌, ◌∷◌, [], ℕ, suc, length, List, Some, IfOk, filter, map, if◌then◌else◌};
 ghost use Rattle.std.specs.List.{range_with_len};
+ghost use Rattle.ocm_limits.specs.Limits.{most_shares};
 ghost use Rattle.ocm_types.specs.Rights.{is_within};
 ghost use Rattle.ocm_rules.specs.declared.rows.ShareRow.{ShareRow};
-ghost use Rattle.ocm_chain.specs.Hypotheses.{AreReaches, change_among, is_cut_among, is_cut_by, is_other_by, is_told_among, reaches_of, told_by, with_own};
-ghost use Rattle.ocm_chain.specs.Reaches.{AreLower, owns, reach_above, reach_at};
+ghost use Rattle.ocm_chain.specs.Hypotheses.{AreReaches, change_alone, change_among, is_cut_among, is_cut_by, is_other_by, is_told_among, reaches_of, told_by, with_own};
+ghost use Rattle.ocm_chain.specs.Reaches.{AreLower, AreRight, owns, reach_above, reach_at, reach_goes_on};
 
 use crate::answers::Change;
 use crate::reaches::{Reach, Row};
+use crate::settling::reach_above;
 use ocm_base::{List, NoMemory};
 use ocm_types::{Perms, Rights};
 use std::alloc::Global;
@@ -54,7 +56,7 @@ pub fn reaches_with(
     rights: Rights,
     closed: bool,
 ) -> Result<Vec<Reach>, NoMemory>
-    requires few { length rows.now ≤ 65536 }
+    requires few { length rows.now ≤ most_shares }
     requires lower { AreLower (owns rows.now) }
     ensures { IfOk result (λ reaches. AreReaches (with_own (owns rows.now) id rights closed) reaches.items (length rows.now)) }
 {
@@ -64,6 +66,19 @@ pub fn reaches_with(
         reaches.push(reach)?;
     }
     Ok(reaches)
+}
+
+/// What would be left at the share of a number, were its permissions these and it closed or not.
+pub fn reach_alone(rows: &[Row], id: u32, rights: Rights, closed: bool) -> Reach
+    requires low { 1 ≤ id }
+    requires high { id ≤ length rows.now }
+    requires lower { AreLower (owns rows.now) }
+    requires right { AreRight rows.now (length rows.now) }
+    ensures { result ≡ reach_at (with_own (owns rows.now) id rights closed) id }
+{
+    let own = &rows[id as usize - 1].own;
+    let above = reach_above(rows, own.share.parent);
+    Reach::of(closed, rights, own.end, above)
 }
 
 /// Whether what is left before goes on at this moment, and what is left after doesn't.
@@ -80,7 +95,7 @@ pub fn cut_among(
     after: &[Reach],
     moment: u64,
 ) -> Result<List<u32>, NoMemory>
-    requires few { length rows.now ≤ 65536 }
+    requires few { length rows.now ≤ most_shares }
     requires as_many { length after.now ≡ length rows.now }
     ensures { IfOk result (λ list. list ≡ filter (is_cut_among moment (reaches_of rows.now) after.now) (range_with_len 1 (length rows.now))) }
 {
@@ -89,6 +104,17 @@ pub fn cut_among(
         if is_cut(rows[index].reach, after[index], moment) {
             numbers.push(index as u32 + 1)?;
         }
+    }
+    Ok(List::from_vec(numbers))
+}
+
+/// The number of a share with none below it, where it goes on at this moment.
+pub fn cut_alone(alloc: Global, id: u32, reach: Reach, moment: u64) -> Result<List<u32>, NoMemory>
+    ensures { IfOk result (λ list. list ≡ (if reach_goes_on moment reach then id ∷ [] else [])) }
+{
+    let mut numbers = Vec::new(alloc);
+    if reach.goes_on(moment) {
+        numbers.push(id)?;
     }
     Ok(List::from_vec(numbers))
 }
@@ -121,6 +147,23 @@ fn told(before: Reach, after: Reach, moment: u64) -> Option<Perms>
     }
 }
 
+/// What the guest of a share with none below it is told, if anything.
+pub fn changes_alone(
+    alloc: Global,
+    id: u32,
+    before: Reach,
+    after: Reach,
+    moment: u64,
+) -> Result<List<Change>, NoMemory>
+    ensures { IfOk result (λ list. list ≡ change_alone id (told_by moment before after)) }
+{
+    let mut changes = Vec::new(alloc);
+    if let Some(perms) = told(before, after, moment) {
+        changes.push(Change { id, perms })?;
+    }
+    Ok(List::from_vec(changes))
+}
+
 /// What the guests of the shares that go on at this moment are told, by what is left after.
 pub fn changes_among(
     alloc: Global,
@@ -128,7 +171,7 @@ pub fn changes_among(
     after: &[Reach],
     moment: u64,
 ) -> Result<List<Change>, NoMemory>
-    requires few { length rows.now ≤ 65536 }
+    requires few { length rows.now ≤ most_shares }
     requires as_many { length after.now ≡ length rows.now }
     ensures { IfOk result (λ list. list ≡ map (change_among after.now) (filter (is_told_among moment (reaches_of rows.now) after.now) (range_with_len 1 (length rows.now)))) }
 {

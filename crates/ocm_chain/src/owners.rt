@@ -1,4 +1,5 @@
 ghost use Rattle.std.specs.Prelude.{◌≡◌, ◌<◌, ◌≤◌, ◌+◌, ◌++◌, ◌∷◌, [], length, IfOk, OnOk, unwrap_or, option_copied};
+ghost use Rattle.ocm_limits.specs.Limits.{most_shares};
 ghost use Rattle.ocm_chain.specs.Owners.{numbers_up};
 
 use ocm_base::{List, NoMemory};
@@ -82,7 +83,7 @@ impl OwnerIndex {
     /// Adds the owner of the next share.
     pub fn add(&mut self, owner: u32)
         requires room { 0 < self.old.room }
-        requires few { length self.old.owners < 65536 }
+        requires few { length self.old.owners < most_shares }
         ensures owners { self.new.owners ≡ self.old.owners ++ owner ∷ [] }
         ensures room { self.old.room ≤ self.new.room + 1 }
     {

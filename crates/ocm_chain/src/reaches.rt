@@ -21,6 +21,8 @@ pub struct Row {
     pub own: ShareRow,
     /// What is left of it by itself and all those above it.
     pub reach: Reach,
+    /// Whether a share was made directly below it.
+    pub is_parent: bool,
 }
 
 impl Reach {

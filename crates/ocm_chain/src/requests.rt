@@ -1,5 +1,6 @@
 ghost use Rattle.std.specs.Prelude.{◌≡◌, ◌<◌, ◌≤◌, ◌+◌, ◌&&◌, ℕ, List, [], length, nat_eq, Some, false, OnOk, IfOk, IfErr, slice_get};
 ghost use Rattle.std.specs.Option.{option_map_or};
+ghost use Rattle.ocm_limits.specs.Limits.{most_shares};
 ghost use Rattle.ocm_rules.specs.Numbers.{same_text};
 
 use ocm_base::NoMemory;
@@ -25,13 +26,14 @@ pub struct RequestIndex {
 
 impl Model for RequestIndex {
     ghost use Rattle.std.specs.Prelude.{◌-◌, ◌≤◌, length, vec_len, vec_capacity};
+    ghost use Rattle.ocm_limits.specs.Limits.{most_shares};
     ghost use Rattle.ocm_chain.specs.Indexes.{RequestLists, RequestsAscend};
 
     ghost Value = { RequestLists };
 
     ghost view = { λ index. record { entries = index.entries.items; room = vec_capacity index.entries - vec_len index.entries } };
 
-    ghost invariant = { λ index. (length index.entries.items ≤ 65536) × RequestsAscend index.entries.items };
+    ghost invariant = { λ index. (length index.entries.items ≤ most_shares) × RequestsAscend index.entries.items };
 }
 
 impl RequestIndex {
@@ -61,7 +63,7 @@ impl RequestIndex {
 
     fn len(&self) -> u32
         ensures len { result ≡ length self.now.entries }
-        ensures few { result ≤ 65536 }
+        ensures few { result ≤ most_shares }
         ensures order { RequestsAscend self.now.entries }
     {
         self.entries.len() as u32
@@ -108,7 +110,7 @@ impl RequestIndex {
     /// Adds a request, unless it has a number already.
     pub fn add(&mut self, parent: u32, sender_id: SenderId, number: u32)
         requires room { 0 < self.old.room }
-        requires few { length self.old.entries < 65536 }
+        requires few { length self.old.entries < most_shares }
         ensures found { (p : ℕ) (s : List ℕ) → number_for self.new.entries p s ≡ number_or (number_for self.old.entries p s) (nat_eq parent p && same_text sender_id s) number }
         ensures len { length self.new.entries ≤ length self.old.entries + 1 }
         ensures room { self.old.room ≤ self.new.room + 1 }
@@ -130,7 +132,7 @@ impl RequestIndex {
     /// Adds the request of a share that was made for one, unless it has a number already.
     pub fn keep(&mut self, parent: Option<u32>, sender_id: Option<SenderId>, number: u32)
         requires room { 0 < self.old.room }
-        requires few { length self.old.entries < 65536 }
+        requires few { length self.old.entries < most_shares }
         ensures found { (p : ℕ) (s : List ℕ) → number_for self.new.entries p s ≡ number_or (number_for self.old.entries p s) (option_map_or (nat_eq p) parent false && option_map_or (same_text s) sender_id false) number }
         ensures len { length self.new.entries ≤ length self.old.entries + 1 }
         ensures room { self.old.room ≤ self.new.room + 1 }

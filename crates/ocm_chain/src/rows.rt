@@ -1,4 +1,5 @@
-ghost use Rattle.std.specs.Prelude.{◌≡◌, ◌<◌, ◌≤◌, ◌+◌, ◌++◌, ◌∷◌, [], length, true, Some, OnOk, IfOk, IfSome, option_copied, option_map};
+ghost use Rattle.std.specs.Prelude.{◌≡◌, ◌<◌, ◌≤◌, ◌+◌, ◌++◌, ◌∷◌, [], length, true, false, Some, OnOk, IfOk, IfSome, option_copied, option_map};
+ghost use Rattle.ocm_limits.specs.Limits.{most_shares};
 ghost use Rattle.ocm_types.specs.declared.rights.Rights.{Rights};
 ghost use Rattle.ocm_rules.specs.declared.rows.ShareRow.{ShareRow};
 ghost use Rattle.ocm_rules.specs.Numbers.{at_number};
@@ -6,9 +7,11 @@ ghost use Rattle.ocm_rules.specs.State.{changed_at, new_share_row};
 ghost use Rattle.ocm_chain.specs.declared.reaches.Row.{Row};
 
 use crate::answers::Change;
-use crate::hypotheses::{changes_among, cut_among, reaches_with};
+use crate::hypotheses::{
+    changes_alone, changes_among, cut_alone, cut_among, reach_alone, reaches_with,
+};
 use crate::reaches::{Reach, Row};
-use crate::settling::{reach_above, settle};
+use crate::settling::{mark_parent, reach_above, settle, touched_to};
 use crate::steps::Steps;
 use ocm_base::{List, NoMemory};
 use ocm_entry::Share;
@@ -38,7 +41,7 @@ impl Model for Rows {
 
 impl Rows {
     ghost use Rattle.ocm_chain.specs.Lists.{made_of, cut_by, changes_by, IsAmongFirst};
-    ghost use Rattle.ocm_chain.specs.Reaches.{reach_at};
+    ghost use Rattle.ocm_chain.specs.Reaches.{reach_at, IsChildless};
 
     /// No shares.
     pub(crate) fn new(alloc: Global) -> Rows
@@ -52,7 +55,7 @@ impl Rows {
     /// How many shares there are.
     pub fn len(&self) -> u32
         ensures len { result ≡ length self.now.shares }
-        ensures few { result ≤ 65536 }
+        ensures few { result ≤ most_shares }
     {
         self.rows.len() as u32
     }
@@ -74,6 +77,7 @@ impl Rows {
         requires high { id ≤ length self.now.shares }
         ensures own { at_number self.now.shares id ≡ Some result.now.own }
         ensures reach { result.now.reach ≡ reach_at self.now.shares id }
+        ensures childless { result.now.is_parent ≡ false → IsChildless (made_of self.now.shares) id }
     {
         &self.rows[id as usize - 1]
     }
@@ -100,10 +104,10 @@ impl Rows {
         Ok(())
     }
 
-    /// Adds a share, to which nothing was done.
+    /// Adds a share, to which nothing was done. Its parent is one from now on.
     pub(crate) fn add(&mut self, share: Share)
         requires room { 0 < self.old.room }
-        requires few { length self.old.shares < 65536 }
+        requires few { length self.old.shares < most_shares }
         requires parent { IsAmongFirst (length self.old.shares) share.parent }
         ensures shares { self.new.shares ≡ self.old.shares ++ new_share_row share ∷ [] }
         ensures room { self.old.room ≤ self.new.room + 1 }
@@ -117,10 +121,16 @@ impl Rows {
             closed: false,
             end: None,
         };
-        self.rows.push(Row { own, reach }).unwrap();
+        mark_parent(&mut self.rows, own.share.parent);
+        let row = Row {
+            own,
+            reach,
+            is_parent: false,
+        };
+        self.rows.push(row).unwrap();
     }
 
-    // Sets what was done to a share itself, and what is left from it on.
+    // Sets what was done to a share itself, and what is left at it and those below it.
     fn set(&mut self, id: u32, perms: Perms, closed: bool, end: Option<u64>)
         requires low { 1 ≤ id }
         requires high { id ≤ length self.old.shares }
@@ -129,11 +139,12 @@ impl Rows {
         ensures room { self.old.room ≤ self.new.room }
     {
         let index = id as usize - 1;
+        let to = touched_to(&self.rows, index);
         let row = &mut self.rows[index];
         row.own.perms = perms;
         row.own.closed = closed;
         row.own.end = end;
-        settle(&mut self.rows, index);
+        settle(&mut self.rows, index, to);
     }
 
     /// Closes a share.
@@ -182,7 +193,11 @@ impl Rows {
         ensures { IfOk result (λ list. list ≡ cut_by moment self.now.shares id) }
     {
         let alloc = *self.rows.allocator();
-        let rights = self.at(id).own.perms.rights();
+        let row = self.at(id);
+        if !row.is_parent {
+            return cut_alone(alloc, id, row.reach, moment);
+        }
+        let rights = row.own.perms.rights();
         let after = reaches_with(alloc, &self.rows, id, rights, true)?;
         cut_among(alloc, &self.rows, &after, moment)
     }
@@ -199,7 +214,12 @@ impl Rows {
         ensures { IfOk result (λ list. list ≡ changes_by moment self.now.shares id perms) }
     {
         let alloc = *self.rows.allocator();
-        let closed = self.at(id).own.closed;
+        let row = self.at(id);
+        let closed = row.own.closed;
+        if !row.is_parent {
+            let after = reach_alone(&self.rows, id, perms.rights(), closed);
+            return changes_alone(alloc, id, row.reach, after, moment);
+        }
         let after = reaches_with(alloc, &self.rows, id, perms.rights(), closed)?;
         changes_among(alloc, &self.rows, &after, moment)
     }

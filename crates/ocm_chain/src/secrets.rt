@@ -1,4 +1,5 @@
 ghost use Rattle.std.specs.Prelude.{◌≡◌, ◌<◌, ◌≤◌, ◌+◌, ◌*◌, ◌^◌, ◌-◌, ℕ, List, [], length, Some, None, OnOk, IfOk, IfErr, if◌then◌else◌, slice_get};
+ghost use Rattle.ocm_limits.specs.Limits.{most_shares};
 ghost use Rattle.ocm_rules.specs.Numbers.{same_text};
 
 use crate::steps::Steps;
@@ -25,13 +26,14 @@ pub struct SecretIndex {
 
 impl Model for SecretIndex {
     ghost use Rattle.std.specs.Prelude.{◌-◌, ◌≤◌, length, vec_len, vec_capacity};
+    ghost use Rattle.ocm_limits.specs.Limits.{most_shares};
     ghost use Rattle.ocm_chain.specs.Indexes.{SecretLists, SecretsAscend};
 
     ghost Value = { SecretLists };
 
     ghost view = { λ index. record { entries = index.entries.items; room = vec_capacity index.entries - vec_len index.entries } };
 
-    ghost invariant = { λ index. (length index.entries.items ≤ 65536) × SecretsAscend index.entries.items };
+    ghost invariant = { λ index. (length index.entries.items ≤ most_shares) × SecretsAscend index.entries.items };
 }
 
 impl SecretIndex {
@@ -50,7 +52,7 @@ impl SecretIndex {
     /// How many secrets there are. They stand in the order of their bytes.
     pub fn len(&self) -> u32
         ensures len { result ≡ length self.now.entries }
-        ensures few { result ≤ 65536 }
+        ensures few { result ≤ most_shares }
         ensures order { SecretsAscend self.now.entries }
     {
         self.entries.len() as u32
@@ -129,7 +131,7 @@ impl SecretIndex {
     /// Adds a secret that has no number yet.
     pub(crate) fn add(&mut self, secret: Secret, number: u32)
         requires room { 0 < self.old.room }
-        requires few { length self.old.entries < 65536 }
+        requires few { length self.old.entries < most_shares }
         requires fresh { number_with self.old.entries secret ≡ None }
         ensures found { (s : List ℕ) → number_with self.new.entries s ≡ (if same_text secret s then Some number else number_with self.old.entries s) }
         ensures len { length self.new.entries ≡ length self.old.entries + 1 }

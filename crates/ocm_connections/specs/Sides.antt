@@ -2,6 +2,7 @@
 use Rattle.std.specs.Prelude.{◌≡◌, ℕ, ◌≤◌, Bool, true, false, List, [], ◌++◌, length, Option, Some, None, Result, Ok, Err, IfSome, IsTrue}
 use Rattle.ocm_base.specs.Outside.{Rose, Appends, AppendsPart, Takes}
 use Rattle.ocm_base.specs.declared.failures.Failed.{Failed}
+use Rattle.ocm_limits.specs.Limits.{most_body_bytes}
 use Rattle.ocm_http.specs.Places.{past}
 use Rattle.ocm_http.specs.Frames.{Frame, Given, Refused, Over, IsFrame}
 use Rattle.ocm_http.specs.Readers.{ReaderState}
@@ -43,12 +44,12 @@ Sends old new piece (Err failed) = (front : List ℕ) × Wrote old new front × 
 
 -- what a stream of requests is, from a place on
 unfoldable pub IsRequests : ℕ → List ℕ → Bool → Frame → Type 0
-IsRequests place bytes ended frame = IsFrame Requests 1048576 place bytes ended frame
+IsRequests place bytes ended frame = IsFrame Requests most_body_bytes place bytes ended frame
 
 -- a reader of requests that had no fault
 pub record IsOpen (reader : ReaderState) : Type 0 where
   pub kind : reader.kind ≡ Requests
-  pub max : reader.max ≡ 1048576
+  pub max : reader.max ≡ most_body_bytes
   pub failed : reader.failed ≡ false
 
 -- the input has ended only where nothing is left

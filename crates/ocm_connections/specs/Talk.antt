@@ -1,5 +1,6 @@
 -- What was said on a connection.
 use Rattle.std.specs.Prelude.{◌≡◌, ◌≢◌, ℕ, ◌+◌, ◌⊎◌, Bool, true, false, nat_eq, List, [], ◌∷◌, ◌++◌, length, if◌then◌else◌, Option, Some, None, Result, Ok, Err}
+use Rattle.ocm_limits.specs.Limits.{last_connection_request}
 use Rattle.ocm_entry.specs.declared.asks.Ask.{Ask}
 use Rattle.ocm_entry.specs.declared.asks.Ask.TheVariants.{Tick}
 use Rattle.ocm_entry.specs.declared.entries.Entry.{Entry}
@@ -75,7 +76,7 @@ closing_head (heads.Reply status fields) = heads.Reply status fields
 
 -- the message behind 999 others is the last of its connection
 abbrev pub is_last : ℕ → Bool
-is_last number = nat_eq number 999
+is_last number = nat_eq number last_connection_request
 
 -- a message as it counts behind so many others: the last closes
 unfoldable pub counted : ℕ → Message → Message

@@ -2,6 +2,7 @@
 
 ghost use Rattle.std.specs.Prelude.{◌≡◌, ◌≢◌, ◌<◌, ◌≤◌, ◌+◌, ◌⊎◌, IfNone, IsTrue, None, []};
 ghost use Rattle.ocm_base.specs.Outside.{Rose};
+ghost use Rattle.ocm_limits.specs.Limits.{last_connection_request, most_connection_requests};
 ghost use Rattle.ocm_http.specs.Messages.{IsRequest};
 ghost use Rattle.ocm_turn.specs.Passes.{BelongsTo};
 ghost use Rattle.ocm_connections.specs.Sides.{IsOpen};
@@ -18,12 +19,10 @@ use ocm_base::Clock;
 use ocm_dav::{Config, Page};
 use ocm_entry::Object;
 use ocm_http::{Fixed, FrameFault, Head, Message, Reader};
+use ocm_limits::{LAST_CONNECTION_REQUEST, MOST_BODY_BYTES};
 use ocm_turn::Pass;
 use std::alloc::Global;
 use std::sync::Wait;
-
-/// How many bytes the body of a request has at most.
-const MAX_BODY: u64 = 1_048_576;
 
 /// Tries the fixed reply where there was no memory.
 fn try_no_memory<C: Conn>(conn: &mut C)
@@ -127,7 +126,7 @@ fn counted(message: Message, number: u64) -> Message
     ensures { result ≡ talk.counted number message }
 {
     let Message { head, body } = message;
-    if number == 999 {
+    if number == LAST_CONNECTION_REQUEST {
         let head = closing(head);
         Message { head, body }
     } else {
@@ -139,7 +138,7 @@ fn counted(message: Message, number: u64) -> Message
 fn ending_after(number: u64, message: &Message) -> Option<Ended>
     ensures { result ≡ talk.ending_after number message.now }
 {
-    if number == 999 {
+    if number == LAST_CONNECTION_REQUEST {
         Some(Ended::Quota)
     } else if closes(&message.head) {
         Some(Ended::Closed)
@@ -202,12 +201,12 @@ fn serve_message<T: Object, C: Conn, K: Clock, R: Wait>(
 ) -> Option<Ended>
     requires own { BelongsTo node.now pass.old }
     requires open { IsOpen reader.old }
-    requires number { number < 1000 }
+    requires number { number < most_connection_requests }
     ensures goes { Goes config.now node.now.limit (stand number reader.old) (stand (number + 1) reader.new)
         (state (C.sides conn.old) draw.old (K.given clock.old) pass.old)
         (state (C.sides conn.new) draw.new (K.given clock.new) pass.new) result }
     ensures open { IfNone result (IsOpen reader.new) }
-    ensures more { IfNone result (number ≢ 999) }
+    ensures more { IfNone result (number ≢ last_connection_request) }
     ensures own { BelongsTo node.now pass.new }
 {
     if is_resting(conn, reader) {
@@ -238,11 +237,11 @@ fn serve_messages<T: Object, C: Conn, K: Clock, R: Wait>(
         (state (C.sides conn.new) draw.new (K.given clock.new) pass.new) result }
     ensures own { BelongsTo node.now pass.new }
 {
-    let Ok(mut reader) = Reader::requests(alloc, MAX_BODY) else {
+    let Ok(mut reader) = Reader::requests(alloc, MOST_BODY_BYTES) else {
         try_no_memory(conn);
         return Ended::NoMemory;
     };
-    for number in 0..999u64 {
+    for number in 0..LAST_CONNECTION_REQUEST {
         let ended = serve_message(
             rt,
             alloc,
@@ -269,7 +268,7 @@ fn serve_messages<T: Object, C: Conn, K: Clock, R: Wait>(
         &mut reader,
         draw,
         clock,
-        999,
+        LAST_CONNECTION_REQUEST,
     );
     ended.unwrap()
 }

@@ -1,6 +1,7 @@
 -- What is posted (RFC 9110 section 9.3.3): offers and notifications of other servers (Open Cloud Mesh API 1.1), and the
 -- commands of local users.
 use Rattle.std.specs.Prelude.{ℕ, not, nat_lt, List, length, codes, bytes_eq, if◌then◌else◌, Option, Some, None, Result, Ok, Err}
+use Rattle.ocm_limits.specs.Limits.{most_json_bytes}
 use Rattle.ocm_types.specs.declared.letters.Offer.{Offer}
 use Rattle.ocm_types.specs.declared.letters.Notice.{Notice}
 use Rattle.ocm_entry.specs.declared.asks.Ask.TheVariants as asks
@@ -25,7 +26,7 @@ use Rattle.ocm_dav.specs.Refusals.{refusal, refused, bad_record}
 abbrev pub post_refusal : List ℕ → List ℕ → Shape → Option Page
 post_refusal method body shape =
     if not (bytes_eq method (codes "POST")) then Some (refusal reasons.NotAllowed shape)
-    else if nat_lt 65536 (length body) then Some (message_page 400 (codes "body too long") shape)
+    else if nat_lt most_json_bytes (length body) then Some (message_page 400 (codes "body too long") shape)
     else None
 
 -- a refusal, or else what is wanted

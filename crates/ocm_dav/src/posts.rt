@@ -10,13 +10,11 @@ use crate::refusals::{bad_record, refusal};
 use crate::wants::Wanted;
 use ocm_base::{Bytes, NoMemory};
 use ocm_entry::{Ask, Why};
+use ocm_limits::MOST_JSON_BYTES;
 use ocm_pages::{Page, Shape, message_page};
 use ocm_records::{read_notice, read_offer};
 use ocm_types::Fresh;
 use std::alloc::Global;
-
-/// How many bytes the body of a POST has at most.
-const MOST_BYTES: usize = 65_536;
 
 /// The refusal of a request at a route of POST that is no POST, or has too long a body.
 pub(crate) fn post_refusal(
@@ -32,7 +30,7 @@ pub(crate) fn post_refusal(
         let page = refusal(alloc, Why::NotAllowed, shape)?;
         return Ok(Some(page));
     }
-    if body.len() > MOST_BYTES {
+    if body.len() > MOST_JSON_BYTES {
         let page = message_page(alloc, 400, "body too long", shape)?;
         return Ok(Some(page));
     }

@@ -1,6 +1,7 @@
 -- Where a head ends, in the rule's own words: with its first empty line (RFC 9112 sections 2.1 and 2.2).
 use Rattle.std.specs.Prelude.{◌≡◌, ◌↔◌, ℕ, suc, Bool, ◌<◌, ◌≤◌, List, [], ◌∷◌, ◌++◌, length, take, drop}
 use Rattle.std.specs.List.{list_all}
+use Rattle.ocm_limits.specs.Limits.{most_head_bytes, most_head_lines}
 use Rattle.ocm_heads.specs.Endings.{blanks, is_blank, found, lines, of_head, of_trailers}
 use Rattle.ocm_heads.specs.declared.endings.Found.TheVariants.{Whole, TooLong, Unfinished}
 
@@ -38,11 +39,11 @@ pub record IsPassed (size count : ℕ) (bytes : List ℕ) (n : ℕ) : Type 0 whe
 -- by the first byte that passes a limit before there is such a line
 pub record HeadsEnd : Type 0 where
   pub whole : (bytes : List ℕ) (n : ℕ) → (found of_head bytes ≡ Whole n)
-      ↔ (IsFirst (behind_blanks bytes) (length bytes) n × (n ≤ 16384) × (lines (take n bytes) ≤ 66))
+      ↔ (IsFirst (behind_blanks bytes) (length bytes) n × (n ≤ most_head_bytes) × (lines (take n bytes) ≤ most_head_lines))
   pub unfinished : (bytes : List ℕ) → (found of_head bytes ≡ Unfinished)
-      ↔ (AreOpen (behind_blanks bytes) (length bytes) × (length bytes ≤ 16384) × (lines bytes ≤ 66))
+      ↔ (AreOpen (behind_blanks bytes) (length bytes) × (length bytes ≤ most_head_bytes) × (lines bytes ≤ most_head_lines))
   pub too_long : (bytes : List ℕ) (blank : Bool) → found of_head bytes ≡ TooLong blank
-      → (n : ℕ) × IsPassed 16384 66 bytes n × AreOpen (behind_blanks bytes) n × (blank ≡ list_all is_blank (take (suc n) bytes))
+      → (n : ℕ) × IsPassed most_head_bytes most_head_lines bytes n × AreOpen (behind_blanks bytes) n × (blank ≡ list_all is_blank (take (suc n) bytes))
 
 -- the same of trailers, which begin at a line and have at most 8,192 bytes
 pub record TrailersEnd : Type 0 where

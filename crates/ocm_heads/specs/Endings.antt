@@ -1,5 +1,6 @@
 -- Where a head ends: its first empty line (RFC 9112 sections 2.1 and 2.2), within so many bytes and lines.
 use Rattle.std.specs.Prelude.{ℕ, ◌+◌, ◌-◌, Bool, false, ◌&&◌, ◌||◌, ◌==◌, List, [], ◌∷◌, if◌then◌else◌}
+use Rattle.ocm_limits.specs.Limits.{most_head_bytes, most_head_lines}
 use Rattle.ocm_heads.specs.declared.endings.Stand.{Stand}
 use Rattle.ocm_heads.specs.declared.endings.Stand.TheVariants.{Before, InLine, AtLine, AfterReturn}
 use Rattle.ocm_heads.specs.declared.endings.Look.{Look}
@@ -75,7 +76,7 @@ lines (b ∷ bytes) = (if b == 10 then 1 else 0) + lines bytes
 
 -- the look for the end of a head: at most 16,384 bytes and 66 lines, empty lines before it among them
 abbrev pub of_head : Look
-of_head = record { stand = Before; size = 16384; lines = 66 }
+of_head = record { stand = Before; size = most_head_bytes; lines = most_head_lines }
 
 -- the look for the end of trailers, which begin at a line: at most 8,192 bytes, and so no more lines
 abbrev pub of_trailers : Look

@@ -1,6 +1,8 @@
 ghost use Rattle.std.specs.Prelude.{◌≡◌, ◌+◌, ◌≤◌, length};
 ghost use Rattle.ocm_heads.specs.Endings as endings;
 
+use ocm_limits::{MOST_HEAD_BYTES, MOST_HEAD_LINES};
+
 /// Where a look for an empty line stands.
 #[derive(Clone, Copy, Debug, PartialEq, Eq)]
 pub enum Stand {
@@ -44,8 +46,8 @@ impl Look {
     {
         Look {
             stand: Stand::Before,
-            size: 16384,
-            lines: 66,
+            size: MOST_HEAD_BYTES as u32,
+            lines: MOST_HEAD_LINES as u32,
         }
     }
 

@@ -2,6 +2,7 @@
 use Rattle.std.specs.Prelude.{◌≡◌, ℕ, ◌^◌, ◌<◌, ◌≤◌, Bool, false, true, ◌||◌, ◌==◌, List, [], ◌∷◌, ◌++◌, length, map, if◌then◌else◌, codes, Option, Some, None, IsTrue, IfSome, IsUtf8, All}
 use Rattle.std.specs.List.{flat_map}
 use Rattle.std.specs.Fmt.{decimal}
+use Rattle.ocm_limits.specs.Limits.{most_head_bytes, most_head_lines}
 use Rattle.httparse.specs.Grammar.{IsToken, AllPass, is_uri_byte, is_value_byte, trim_ows}
 use Rattle.ocm_types.specs.Hosts.{is_host}
 use Rattle.ocm_heads.specs.Endings.{lines}
@@ -22,7 +23,7 @@ ReadsAs kind max bytes message = (place : ℕ) (ended : Bool) → IsFrame kind m
 
 -- a head's limits: bytes and lines
 abbrev pub IsWithinLimits : List ℕ → Type 0
-IsWithinLimits head = (length head ≤ 16384) × (lines head ≤ 66)
+IsWithinLimits head = (length head ≤ most_head_bytes) × (lines head ≤ most_head_lines)
 
 -- a body that a reader takes: at most max bytes, whose number has at most 19 digits
 abbrev pub IsBodyOf : ℕ → List ℕ → Type 0
@@ -77,7 +78,7 @@ AreBytes bytes = All (λ b. b < 256) bytes
 -- bytes are that request, where it is within the limits
 abbrev pub RequestIsReadBack : List ℕ → List ℕ → List ℕ → Option (List ℕ) → List ℕ → List ℕ → Type 0
 RequestIsReadBack host method target secret body bytes =
-    (max : ℕ) → IsAsked method target → length (request_head host method target secret (length body)) ≤ 16384 → IsBodyOf max body
+    (max : ℕ) → IsAsked method target → length (request_head host method target secret (length body)) ≤ most_head_bytes → IsBodyOf max body
     → ReadsAs Requests max bytes (request_message host method target secret body)
 
 -- a written request is read back: its host and its target are texts, and its secret is bytes

@@ -1,5 +1,6 @@
 -- A message that is being read: what the bytes that are still to come mean.
 use Rattle.std.specs.Prelude.{◌≡◌, ℕ, ◌+◌, ◌-◌, ◌*◌, ◌<◌, ◌≤◌, Bool, true, List, [], ◌∷◌, ◌++◌, length, take, drop, if◌then◌else◌, Option, Some, None, Ok, ⊤}
+use Rattle.ocm_limits.specs.Limits.{most_head_bytes}
 use Rattle.ocm_heads.specs.Endings.{found, moved, of_head, blanks}
 use Rattle.ocm_heads.specs.declared.endings.Found.TheVariants as finds
 use Rattle.ocm_http.specs.Places.{past}
@@ -51,7 +52,7 @@ Rest rules (Trailers message place look) bytes ended frame = frame ≡ trailers 
 
 -- what a stage keeps
 abbrev pub Stands : Rules → Stage → Type 0
-Stands rules (Head text look) = (found of_head text ≡ finds.Unfinished) × (moved of_head text ≡ look) × (length text + look.size ≡ 16384)
+Stands rules (Head text look) = (found of_head text ≡ finds.Unfinished) × (moved of_head text ≡ look) × (length text + look.size ≡ most_head_bytes)
 Stands rules (Sized message wanted) = (0 < wanted) × (length message.body + wanted ≤ rules.max)
 Stands rules (ToEnd message first) = length message.body ≤ rules.max
 Stands rules (Line message place line) = (length message.body ≤ rules.max) × IsOpenLine line

@@ -1,4 +1,5 @@
 ghost use Rattle.std.specs.Prelude.{◌≡◌, ◌<◌, ◌≤◌, length, if◌then◌else◌, IfOk, IfErr};
+ghost use Rattle.ocm_limits.specs.Limits.{most_head_lines};
 ghost use Rattle.ocm_heads.specs.Endings as ends;
 ghost use Rattle.ocm_http.specs.Places as places;
 ghost use Rattle.ocm_http.specs.Messages as messages;
@@ -15,7 +16,7 @@ use ocm_heads::{
 use std::alloc::Global;
 
 fn read_head(alloc: Global, kind: Kind, text: &[u8]) -> Result<Option<Head>, NoMemory>
-    requires { ends.lines text.now ≤ 66 }
+    requires { ends.lines text.now ≤ most_head_lines }
     ensures { IfOk result (messages.SaysHead kind text.now) }
 {
     match kind {
@@ -68,7 +69,7 @@ fn begin(alloc: Global, rules: Rules, head: Head, length: Length, first: u64, ne
 
 /// Reads a whole head, with the CR and LF before it.
 fn begin_after(alloc: Global, rules: Rules, text: &[u8]) -> Result<Begun, FrameFault>
-    requires { ends.lines text.now ≤ 66 }
+    requires { ends.lines text.now ≤ most_head_lines }
     ensures begun { IfOk result (Begins rules text.now) }
     ensures fault { IfErr result (λ f. ((f ≡ FrameFault.NoMemory) → ⊥) → (bytes : _) (ended : _) → HeadedBy rules text.now bytes ended (Refused f)) }
     ensures of_bytes { IfErr result (λ f. (f ≡ FrameFault.ReadFault) → ⊥) }

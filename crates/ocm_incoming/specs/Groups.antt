@@ -3,6 +3,7 @@ use Rattle.std.specs.HashMap as map
 use Rattle.std.specs.HashMap.{HashMap}
 use Rattle.std.specs.declared.hash.FoldHasher.{FoldHasher}
 use Rattle.std.specs.declared.hash.BuildHasherDefault.{BuildHasherDefault}
+use Rattle.ocm_limits.specs.Limits.{most_records}
 use Rattle.ocm_incoming.specs.declared.tallies.Tag.{Tag}
 
 -- the numbers of those that pass, ascending, where the first of the list has this number
@@ -39,7 +40,7 @@ pub record ChainRows : Type 0 where
 
 -- each member knows the one before it in its group, and the last member of each group is kept
 pub record IsChain (groups earlier : List ℕ) (last : Places) : Type 0 where
-  pub few : length groups ≤ 65536
+  pub few : length groups ≤ most_records
   pub linked : length earlier ≡ length groups
   pub links : (i : ℕ) → i < length groups → IsLastOf groups (slice_index groups i) i (slice_index earlier i)
   pub lasts : (group : ℕ) → IsLastOf groups group (length groups) (kept_for last group)
@@ -74,7 +75,7 @@ pub record IsNumberOf (count group : ℕ) : Type 0 where
 
 -- the counts are those of the groups, each of which has the number of a member
 pub record IsTally (tags : List Tag) (counts : List ℕ) : Type 0 where
-  pub few : length tags ≤ 65536
+  pub few : length tags ≤ most_records
   pub each : length counts ≡ length tags
   pub grouped : (i : ℕ) (d : Tag) → i < length tags → IsNumberOf (length tags) (slice_index_or tags i d).group
   pub kept : (i : ℕ) → slice_index counts i ≡ counted tags (i + 1)

@@ -3,6 +3,7 @@ use Rattle.std.specs.HashMap as hash
 use Rattle.std.specs.HashMap.{HashMap}
 use Rattle.std.specs.declared.hash.FoldHasher.{FoldHasher}
 use Rattle.std.specs.declared.hash.BuildHasherDefault.{BuildHasherDefault}
+use Rattle.ocm_limits.specs.Limits.{most_records, most_requests}
 use Rattle.ocm_entry.specs.declared.rows.Request.{Request}
 use Rattle.ocm_rules.specs.Numbers.{same_text, number_of}
 use Rattle.ocm_rules.specs.Offers.{is_pending, is_given_up}
@@ -24,7 +25,7 @@ keys_of records = map (λ (r : Record). key_of r.offer) records
 
 -- each index has the number of the first of the records that are found by a key
 pub record IsRecords (rows : List Record) (by_offer : NumbersBy OfferKey) (by_user : NumbersBy (List ℕ)) (by_mark : NumbersBy Mark) : Type 0 where
-  pub few : length rows ≤ 65536
+  pub few : length rows ≤ most_records
   pub offers : (k : OfferKey) → hash.get same_key by_offer k ≡ number_of (λ o. same_key o k) (keys_of rows)
   pub users : (s : List ℕ) → hash.get same_text by_user s ≡ first_for (users_of rows) s
   pub marks : (m : Mark) → hash.get same_mark by_mark m ≡ first_with (marks_of rows) m
@@ -72,8 +73,8 @@ AreThere count (q ∷ qs) = IsNumberOf count q.received × AreThere count qs
 
 -- the groups of the records and of the requests, and what is counted of them
 pub record IsInbox (rows : List Record) (requests : List Request) (users marks askers : List ℕ) (pending held : List Tag) : Type 0 where
-  pub few : length rows ≤ 65536
-  pub few_requests : length requests ≤ 65536
+  pub few : length rows ≤ most_records
+  pub few_requests : length requests ≤ most_requests
   pub there : AreThere (length rows) requests
   pub by_user : users ≡ user_groups rows
   pub by_mark : marks ≡ mark_groups rows

@@ -1,4 +1,5 @@
 ghost use Rattle.std.specs.Prelude.{◌≡◌, ◌<◌, ◌≤◌, ◌+◌, ◌-◌, ◌++◌, ◌∷◌, [], length, slice_index, IfOk, OnOk};
+ghost use Rattle.ocm_limits.specs.Limits.{most_records};
 ghost use Rattle.ocm_incoming.specs.Groups.{members, kept_for, IsLastOf};
 
 use ocm_base::{List, NoMemory};
@@ -105,7 +106,7 @@ impl Chain {
     /// Adds a member of a group.
     pub fn push(&mut self, group: u32)
         requires room { 0 < self.old.room }
-        requires few { length self.old.groups < 65536 }
+        requires few { length self.old.groups < most_records }
         ensures groups { self.new.groups ≡ self.old.groups ++ group ∷ [] }
         ensures room { self.old.room ≤ self.new.room + 1 }
     {

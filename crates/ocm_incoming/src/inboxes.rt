@@ -1,4 +1,5 @@
 ghost use Rattle.std.specs.Prelude.{◌≡◌, ◌<◌, ◌≤◌, ◌+◌, ◌++◌, ◌∷◌, [], length, map, count_by, not, is_some, IsSome, IfOk, OnOk, option_copied};
+ghost use Rattle.ocm_limits.specs.Limits.{most_records, most_requests};
 ghost use Rattle.ocm_types.specs.declared.phases.Phase.TheVariants.{Pending};
 ghost use Rattle.ocm_rules.specs.Numbers.{at_number, number_of};
 ghost use Rattle.ocm_rules.specs.State.{changed_at};
@@ -10,10 +11,11 @@ use crate::chains::Chain;
 use crate::phases::{is_given_up, is_pending};
 use crate::plans::PlannedOffer;
 use crate::records::RecordTable;
-use crate::rows::{Mark, Record, row_at};
+use crate::rows::{Mark, Record};
 use crate::tallies::{Tally, one_if};
 use ocm_base::{List, NoMemory};
 use ocm_entry::Request;
+use ocm_rules::row_at;
 use ocm_types::{Name, Phase, RequestPhase};
 use std::alloc::Global;
 use std::marker::Model;
@@ -182,7 +184,7 @@ impl Inbox {
     /// number. It takes no memory.
     pub fn receive(&mut self, planned: PlannedOffer) -> u32
         requires room { 0 < self.old.room }
-        requires few { length self.old.records < 65536 }
+        requires few { length self.old.records < most_records }
         ensures records { self.new.records ≡ self.old.records ++ record { offer = planned; phase = Pending } ∷ [] }
         ensures requests { self.new.requests ≡ self.old.requests }
         ensures number { result ≡ length self.new.records }
@@ -202,7 +204,7 @@ impl Inbox {
     /// Adds a request, whose record is there, and answers with its number. It takes no memory.
     pub fn ask(&mut self, request: Request) -> u32
         requires room { 0 < self.old.room }
-        requires few { length self.old.requests < 65536 }
+        requires few { length self.old.requests < most_requests }
         requires there { IsSome (at_number self.old.records request.received) }
         ensures records { self.new.records ≡ self.old.records }
         ensures requests { self.new.requests ≡ self.old.requests ++ request ∷ [] }

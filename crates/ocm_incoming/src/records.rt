@@ -1,5 +1,6 @@
 ghost use Rattle.std.specs.Prelude.{◌≡◌, ℕ, ◌<◌, ◌≤◌, ◌+◌, ◌++◌, ◌∷◌, [], ◌&&◌, not, is_some, length, Some, IsSome, OnOk, option_copied, if◌then◌else◌};
 ghost use Rattle.std.specs.HashMap as hash;
+ghost use Rattle.ocm_limits.specs.Limits.{most_records};
 ghost use Rattle.ocm_types.specs.declared.phases.Phase.TheVariants.{Pending};
 ghost use Rattle.ocm_rules.specs.Numbers.{at_number, number_of};
 ghost use Rattle.ocm_rules.specs.State.{changed_at};
@@ -7,8 +8,9 @@ ghost use Rattle.ocm_rules.specs.Equal.{same_offer};
 ghost use Rattle.ocm_incoming.specs.Lists.{offers_of, users_of, marks_of, first_for, first_with, phased};
 
 use crate::plans::{OfferKey, PlannedOffer};
-use crate::rows::{Mark, Record, row_at};
+use crate::rows::{Mark, Record};
 use ocm_base::NoMemory;
+use ocm_rules::row_at;
 use ocm_types::{Name, Phase};
 use std::alloc::Global;
 use std::collections::HashMap;
@@ -120,7 +122,7 @@ impl RecordTable {
     /// Adds an offer on which its recipient has not decided.
     pub fn add(&mut self, planned: PlannedOffer)
         requires room { 0 < self.old.room }
-        requires few { length self.old.rows < 65536 }
+        requires few { length self.old.rows < most_records }
         ensures rows { self.new.rows ≡ self.old.rows ++ record { offer = planned; phase = Pending } ∷ [] }
         ensures room { self.old.room ≤ self.new.room + 1 }
     {

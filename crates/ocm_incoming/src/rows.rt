@@ -30,13 +30,3 @@ impl Mark {
         Ok(Mark { id, secret })
     }
 }
-
-/// The row of this number, where the first has number 1.
-pub(crate) fn row_at<T>(rows: &[T], number: u32) -> Option<&T>
-    ensures { option_copied result ≡ at_number rows.now number }
-{
-    match number.checked_sub(1) {
-        Some(index) => rows.get(index as usize),
-        None => None,
-    }
-}

@@ -1,4 +1,5 @@
 ghost use Rattle.std.specs.Prelude.{◌≡◌, ◌<◌, ◌≤◌, ◌+◌, ◌++◌, ◌∷◌, [], length, OnOk};
+ghost use Rattle.ocm_limits.specs.Limits.{most_records};
 ghost use Rattle.ocm_rules.specs.State.{changed_at};
 ghost use Rattle.ocm_incoming.specs.Groups.{one_if, counted, recounted};
 
@@ -79,7 +80,7 @@ impl Tally {
     /// Adds a member. Its group has the number of a member before it, or its own.
     pub fn push(&mut self, group: u32, counts: bool)
         requires room { 0 < self.old.room }
-        requires few { length self.old.tags < 65536 }
+        requires few { length self.old.tags < most_records }
         requires from_one { 0 < group }
         requires within { group ≤ length self.old.tags + 1 }
         ensures tags { self.new.tags ≡ self.old.tags ++ record { group = group; counts = counts } ∷ [] }

@@ -10,7 +10,7 @@ use Rattle.ocm_rules.specs.Views.{View}
 use Rattle.ocm_rules.specs.Messages.{change_count, out, phase, sends, state, view_of}
 use Rattle.ocm_rules.specs.History.{IsAnswered, IsLegal, kept}
 use Rattle.ocm_rules.proofs.Kept.{kept-answered}
-use Rattle.ocm_law_counts.specs.Counts.{about_records, about_requests, about_shares, most_messages, record_messages, request_messages, share_messages}
+use Rattle.ocm_law_counts.specs.Counts.{about_records, about_requests, about_shares, counted_messages, record_messages, request_messages, share_messages}
 use Rattle.ocm_law_counts.proofs.Rows.{total-twice}
 use Rattle.ocm_law_counts.proofs.Sending.{change_sends, record_sends, request_sends, sends-parted}
 use Rattle.ocm_law_counts.proofs.Shares.{share_sends, shares-step}
@@ -25,7 +25,7 @@ four-parts : (sent shares records requests changes more : ℕ) (a b c d : ℕ) �
 four-parts sent shares records requests changes more a b c d within parted shares_after records_after requests_after changes_after h i j k = omega arith
 
 -- kept entries send no more messages than are counted for what is kept
-pub sent-within : (host : List ℕ) (g : List Entry) → IsAnswered host g → length (out host g) ≤ most_messages host g
+pub sent-within : (host : List ℕ) (g : List Entry) → IsAnswered host g → length (out host g) ≤ counted_messages host g
 sent-within host [] answered = omega arith
 sent-within host (e ∷ before) answered =
     let v : View = view_of host before in
@@ -44,7 +44,7 @@ small-sum : (shares records requests a b c d : ℕ) → a ≤ shares + shares �
 small-sum shares records requests a b c d h i j k l m n = omega arith
 
 -- and that is at most 1,048,576
-most-few : (host : List ℕ) (g : List Entry) → IsAnswered host g → most_messages host g ≤ 1048576
+most-few : (host : List ℕ) (g : List Entry) → IsAnswered host g → counted_messages host g ≤ 1048576
 most-few host g answered =
     small-sum (length (made host g)) (length (offers g)) (length (requests g)) (about_shares host g) (about_records host g) (about_requests host g) (change_count (out host g))
     (total-twice (share_messages host g) (λ i. share-most (is_live host g i)) (made host g))
@@ -52,7 +52,7 @@ most-few host g answered =
     (total-twice (λ r. request_messages (state host g r)) (λ r. request-most (state host g r)) (requests g))
     (made-few host g answered) (offers-few host g answered) (requests-few host g answered) (changes-few host g answered)
 
-pub messages-counted : (host : List ℕ) (g : List Entry) → IsLegal host g → length (out host (kept host g)) ≤ most_messages host (kept host g)
+pub messages-counted : (host : List ℕ) (g : List Entry) → IsLegal host g → length (out host (kept host g)) ≤ counted_messages host (kept host g)
 messages-counted host g legal = sent-within host (kept host g) (kept-answered host g legal)
 
 -- messages have numbers up to 1,048,576

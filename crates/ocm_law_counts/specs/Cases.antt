@@ -7,11 +7,11 @@ use Rattle.ocm_entry.specs.declared.asks.Cmd.TheVariants.{Accept, Decline, Limit
 use Rattle.ocm_rules.specs.Cases.{add_bob, alice_commands, bob_commands, chain_at_bob, history, offer_to_bob, sharing, to_read}
 use Rattle.ocm_rules.specs.History.{kept}
 use Rattle.ocm_rules.specs.Messages.{out}
-use Rattle.ocm_law_counts.specs.Counts.{most_messages}
+use Rattle.ocm_law_counts.specs.Counts.{counted_messages}
 
 -- after these asks this many messages were sent, and as many are counted
 abbrev pub AreCounted : List ℕ → List Ask → ℕ → Type 0
-AreCounted host asks n = (length (out host (kept host (history host asks))) ≡ n) × (most_messages host (kept host (history host asks)) ≡ n)
+AreCounted host asks n = (length (out host (kept host (history host asks))) ≡ n) × (counted_messages host (kept host (history host asks)) ≡ n)
 
 -- alice shares `/f` with bob, and ends the share
 abbrev pub share_ended : List Ask

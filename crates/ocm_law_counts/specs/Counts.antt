@@ -43,5 +43,5 @@ abbrev pub about_requests : List ℕ → List Entry → ℕ
 about_requests host g = total (λ r. request_messages (state host g r)) (numbers (requests g))
 
 -- how many messages these kept entries sent at most
-abbrev pub most_messages : List ℕ → List Entry → ℕ
-most_messages host g = about_shares host g + about_records host g + about_requests host g + change_count (out host g)
+abbrev pub counted_messages : List ℕ → List Entry → ℕ
+counted_messages host g = about_shares host g + about_records host g + about_requests host g + change_count (out host g)

@@ -4,10 +4,11 @@
 #![tactic(auto)]
 
 ghost use Rattle.std.specs.Prelude.{◌≡◌, ◌≤◌, ℕ, List, length};
+ghost use Rattle.ocm_limits.specs.Limits.{most_messages};
 ghost use Rattle.ocm_entry.specs.declared.entries.Entry.{Entry};
 ghost use Rattle.ocm_rules.specs.History.{IsLegal, kept};
 ghost use Rattle.ocm_rules.specs.Messages.{out};
-ghost use Rattle.ocm_law_counts.specs.Counts.{most_messages};
+ghost use Rattle.ocm_law_counts.specs.Counts.{counted_messages};
 
 pub mod cases;
 
@@ -17,10 +18,10 @@ pub mod cases;
 /// is live, for an offer that was accepted and not given up, and for a request that is not taken back,
 /// and none for an offer that is pending.
 pub fn messages_are_about_what_is_kept()
-    ensures { (host : List ℕ) (g : List Entry) → IsLegal host g → length (out host (kept host g)) ≤ most_messages host (kept host g) }
+    ensures { (host : List ℕ) (g : List Entry) → IsLegal host g → length (out host (kept host g)) ≤ counted_messages host (kept host g) }
 {}
 
 /// A server's messages never pass 1,048,576.
 pub fn messages_have_numbers()
-    ensures { (host : List ℕ) (g : List Entry) → IsLegal host g → length (out host (kept host g)) ≤ 1048576 }
+    ensures { (host : List ℕ) (g : List Entry) → IsLegal host g → length (out host (kept host g)) ≤ most_messages }
 {}

@@ -1,6 +1,7 @@
 -- A post to a server of this program spells one message.
 use Rattle.std.proofs.Common.{ℕ, true, List, [], ◌∷◌, ◌++◌, length, map, codes, None, sym, subst, append-nil}
 use Rattle.std.proofs.lemmas.List.Elements.{All-nil, All-cons}
+use Rattle.ocm_limits.specs.Limits.{most_body_bytes}
 use Rattle.ocm_heads.specs.declared.fields.Field.{Field}
 use Rattle.ocm_heads.specs.declared.fields.Head.TheVariants.{Request}
 use Rattle.ocm_dav.specs.declared.configs.Config.{Config}
@@ -14,7 +15,7 @@ use Rattle.ocm_http.specs.declared.messages.Message.{Message}
 use Rattle.ocm_http.proofs.ReadStreams.{stream_of_messages}
 use Rattle.ocm_http.specs.ReadBack.{ReadsAs, lower, request_fields, request_message}
 use Rattle.ocm_pump.specs.Delivery.{letter_bytes, letter_end, post_request}
-use Rattle.ocm_law_posts.specs.Posts.{Asks, IsRequestOf, post_message, most_body, PostsAreMessages, PostsAreDeliveries}
+use Rattle.ocm_law_posts.specs.Posts.{Asks, IsRequestOf, post_message, PostsAreMessages, PostsAreDeliveries}
 use Rattle.ocm_law_posts.proofs.EndPoints.{host-parts}
 use Rattle.ocm_law_posts.proofs.Fitting.{host-short}
 use Rattle.ocm_law_posts.proofs.Heads.{IsTarget, shares-target, notifications-target, post-read}
@@ -44,11 +45,11 @@ post-message site letter ours h =
     subst (at_path site.host letter) (sym ours.path) (post-read site.host (codes "/ocm" ++ letter_end letter) (letter_bytes letter) ours.host few (letter-target letter) (letter-back letter h).0)
 
 -- what is read as one message is that stream
-one-message : (bytes : List ℕ) (message : Message) → IsRequestOf bytes message → Frames Requests most_body 0 bytes true (message ∷ []) Over
+one-message : (bytes : List ℕ) (message : Message) → IsRequestOf bytes message → Frames Requests most_body_bytes 0 bytes true (message ∷ []) Over
 one-message bytes message read =
-    let reads : List ℕ × Message → Type 0 = λ w. ReadsAs Requests most_body w.0 w.1 in
-    subst (λ (l : List ℕ). Frames Requests most_body 0 l true (message ∷ []) Over) (append-nil bytes)
-    (stream_of_messages Requests most_body 0 ((bytes, message) ∷ []) true (All-cons reads (bytes, message) [] read (All-nil reads)))
+    let reads : List ℕ × Message → Type 0 = λ w. ReadsAs Requests most_body_bytes w.0 w.1 in
+    subst (λ (l : List ℕ). Frames Requests most_body_bytes 0 l true (message ∷ []) Over) (append-nil bytes)
+    (stream_of_messages Requests most_body_bytes 0 ((bytes, message) ∷ []) true (All-cons reads (bytes, message) [] read (All-nil reads)))
 
 pub post-delivers : PostsAreDeliveries
 post-delivers target document site letter config fresh is point e h =

@@ -1,5 +1,6 @@
 -- A letter that is posted is delivered: the bytes of the post are one message, which asks what the letter says.
 use Rattle.std.specs.Prelude.{◌≡◌, ℕ, ◌≤◌, true, List, [], ◌∷◌, ◌++◌, length, codes, None, Some, Ok, IsTrue}
+use Rattle.ocm_limits.specs.Limits.{most_body_bytes, most_json_bytes}
 use Rattle.ocm_types.specs.Hosts.{is_host}
 use Rattle.ocm_types.specs.declared.letters.Letter.{Letter}
 use Rattle.ocm_types.specs.declared.letters.Letter.TheVariants as letters
@@ -36,18 +37,14 @@ ReadsLetter (letters.Notice n) bytes = record_of notice bytes ≡ Ok n
 
 -- the record of a letter has at most 65,536 bytes, and is read as that letter
 abbrev pub LettersAreReadBack : Type 0
-LettersAreReadBack = (letter : Letter) → IsLetter letter → (length (letter_bytes letter) ≤ 65536) × ReadsLetter letter (letter_bytes letter)
+LettersAreReadBack = (letter : Letter) → IsLetter letter → (length (letter_bytes letter) ≤ most_json_bytes) × ReadsLetter letter (letter_bytes letter)
 
 -- ---- the message
-
--- the most bytes of a request's body
-abbrev pub most_body : ℕ
-most_body = 1048576
 
 -- bytes are this request and nothing else, as a server reads them: at each place of a connection's stream, whether it
 -- ends with them or not
 abbrev pub IsRequestOf : List ℕ → Message → Type 0
-IsRequestOf bytes message = ReadsAs Requests most_body bytes message
+IsRequestOf bytes message = ReadsAs Requests most_body_bytes bytes message
 
 -- the message that a post to a site is
 abbrev pub post_message : Site → Letter → Message
@@ -100,7 +97,7 @@ EndPointsAreOurs =
 pub record AreAsk (config : Config) (bytes fresh : List ℕ) (ask : Ask) : Type 0 where
   pub message : Message
   pub read : IsRequestOf bytes message
-  pub alone : Frames Requests most_body 0 bytes true (message ∷ []) Over
+  pub alone : Frames Requests most_body_bytes 0 bytes true (message ∷ []) Over
   pub asks : Asks config message fresh ask
 
 -- A letter is posted to the site of a usable document with the endPoint of a host of this program: the bytes are one

@@ -5,6 +5,7 @@ use Rattle.std.specs.Option.{option_map_or}
 use Rattle.std.specs.List.{list_all, slice_split}
 use Rattle.std.specs.Str.{is_utf8}
 use Rattle.std.proofs.lemmas.Bool.{and_from, le-leb, ltb-false}
+use Rattle.ocm_limits.specs.Limits.{most_line_bytes, most_lines}
 use Rattle.ocm_types.specs.Texts.{is_secret}
 use Rattle.ocm_types.proofs.HostReading.{canonical_host_of-is}
 use Rattle.ocm_path.specs.Paths.{Segments, is_path, is_segment, is_slash, path_below, path_of, path_text, read_value, segments_of, within_limit, without_last_slash}
@@ -23,7 +24,7 @@ use Rattle.ocm_script.specs.declared.faults.ScriptFault.{ScriptFault}
 use Rattle.ocm_script.specs.declared.faults.ScriptFault.TheVariants as ends_as
 use Rattle.ocm_script.specs.Forms as forms
 use Rattle.ocm_script.specs.Forms.{Form, Reading, line_by}
-use Rattle.ocm_script.specs.Lines.{lines_of, most_line_bytes, most_lines}
+use Rattle.ocm_script.specs.Lines.{lines_of}
 use Rattle.ocm_script.specs.Script.{event_of, events_of, named_after, script_of, short_line, with_front}
 use Rattle.ocm_script.specs.Words as words
 use Rattle.ocm_script.specs.Words.{ends, next, remaining}

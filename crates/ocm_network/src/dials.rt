@@ -1,6 +1,7 @@
 ghost use Rattle.std.specs.Prelude.{◌≡◌, ◌≤◌, None, Err, IfOk, length};
 ghost use Rattle.ocm_base.specs.Outside.{Rose};
 
+use crate::judges::Asked;
 use ocm_base::Bytes;
 use ocm_pump::{Dial, DialEnd};
 use ocm_sockets::{ExchangeFault, Pauses, exchange};
@@ -19,7 +20,8 @@ pub struct TcpDial<'a, R: Wait + time::Clock + Net<Listener = TcpListener, Strea
 }
 
 impl<'a, R: Wait + time::Clock + Net<Listener = TcpListener, Stream = TcpStream>> TcpDial<'a, R> {
-    /// A dial with no fault so far. Dials that share the pauses leave a host alone for a while that failed for one of them.
+    /// A dial with no fault so far. Dials that share the pauses leave a host alone for a while that failed for one of them,
+    /// or gave it a reply of no use.
     pub fn new(rt: &'a R, pauses: Arc<Pauses, Global>) -> TcpDial<'a, R> {
         TcpDial {
             rt,
@@ -36,12 +38,18 @@ impl<'a, R: Wait + time::Clock + Net<Listener = TcpListener, Stream = TcpStream>
     ghost faults = { λ d. d.faults };
 
     fn exchange(&mut self, alloc: Global, host: &Host, request: &Bytes) -> Result<Bytes, DialEnd> {
+        let asked = Asked {
+            alloc,
+            host,
+            request,
+        };
         match exchange(
             self.rt,
             alloc,
             &self.pauses,
             host.as_str(),
             request.as_slice(),
+            &asked,
         ) {
             Ok(reply) => Ok(reply),
             Err(ExchangeFault::NoMemory) => Err(DialEnd::NoMemory),

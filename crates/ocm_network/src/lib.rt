@@ -7,6 +7,7 @@
 mod conns;
 mod dials;
 mod doors;
+mod judges;
 
 pub use conns::StreamConn;
 pub use dials::TcpDial;

@@ -6,6 +6,7 @@ use Rattle.clap.specs.declared.builder.action.ArgAction.TheVariants.{Set}
 use Rattle.clap.specs.Words.{App, Rule, Row, Text, Kinds, new_app, new_rule, with_rule, matches_of, fault_of, first_of}
 use Rattle.clap.specs.Simple.{on_top}
 use Rattle.ocm_base.specs.Decimal.{decimal_of}
+use Rattle.ocm_limits.specs.Limits.{most_workers}
 use Rattle.ocm_types.specs.Hosts.{host_of}
 use Rattle.ocm_types.specs.Texts.{secret_of}
 use Rattle.ocm_options.specs.declared.plans.Plan.{Plan}
@@ -50,7 +51,7 @@ o >>= f = option_and_then f o
 
 -- a number of workers: 1 to 64
 abbrev pub workers_of : ℕ → Option ℕ
-workers_of n = if nat_le 1 n && nat_le n 64 then Some n else None
+workers_of n = if nat_le 1 n && nat_le n most_workers then Some n else None
 
 -- the number that an option is
 abbrev pub number_at : Text → List Row → Option ℕ

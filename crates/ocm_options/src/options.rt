@@ -8,6 +8,7 @@ ghost use Rattle.ocm_options.specs.Plans.{Reads};
 use crate::plans::PlanFault;
 use clap::ArgMatches;
 use ocm_base::{NoMemory, Text, decimal_read};
+use ocm_limits::MOST_WORKERS;
 use ocm_types::{AddressFault, Host, Secret, TextFault};
 use std::alloc::Global;
 
@@ -54,7 +55,7 @@ fn number_at(matches: &ArgMatches<'_>, name: &str) -> Option<u64>
 fn workers_of(number: u64) -> Option<u32>
     ensures { result ≡ plans.workers_of number }
 {
-    if 1 <= number && number <= 64 {
+    if 1 <= number && number <= MOST_WORKERS {
         Some(number as u32)
     } else {
         None

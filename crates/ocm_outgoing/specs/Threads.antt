@@ -4,6 +4,7 @@ use Rattle.std.specs.HashMap as map
 use Rattle.std.specs.HashMap.{HashMap}
 use Rattle.std.specs.declared.hash.FoldHasher.{FoldHasher}
 use Rattle.std.specs.declared.hash.BuildHasherDefault.{BuildHasherDefault}
+use Rattle.ocm_limits.specs.Limits.{most_messages}
 use Rattle.ocm_types.specs.declared.letters.Numbered.{Numbered}
 use Rattle.ocm_rules.specs.declared.rows.SentRow.{SentRow}
 use Rattle.ocm_rules.specs.declared.rows.Subject.{Subject}
@@ -89,7 +90,7 @@ HaveNumbers rows = (i : ℕ) → option_map_or (λ (row : Sent). nat_eq row.numb
 
 -- what an outbox keeps: at most 1,048,576 numbered rows, how many of them tell changed permissions, and the threads of what waits
 pub record IsOutbox (rows : List Sent) (threads : Threads) (changes : ℕ) : Type 0 where
-  pub few : length rows ≤ 1048576
+  pub few : length rows ≤ most_messages
   pub numbers : HaveNumbers rows
   pub counted : changes ≡ change_count (messages (rows_of rows))
   pub threaded : (s : Subject) → ThreadIs (about rows s) (waiting rows s) (next_of rows) (thread_of threads s)

@@ -1,13 +1,14 @@
 ghost use Rattle.std.specs.Prelude.{◌≡◌, ◌+◌, ◌<◌, ◌≤◌, [], ◌∷◌, ◌++◌, length, IfOk, IfSome, IsSome, OnOk, option_copied};
+ghost use Rattle.ocm_limits.specs.Limits.{most_messages};
 ghost use Rattle.ocm_rules.specs.Messages.{change_count};
 ghost use Rattle.ocm_rules.specs.Settlements.{settles};
 ghost use Rattle.ocm_rules.specs.State.{changed_at, new_sent_row};
 ghost use Rattle.ocm_outgoing.specs.Lists.{messages, is_settled, message_at, numbered_at, subject_at, settled_row, due_in};
 
-use crate::rows::{Sent, Thread, is_change, row_at, settles};
+use crate::rows::{Sent, Thread, is_change, settles};
 use crate::walks::{begins_at, copies, first_numbers, first_waiting, link_last, mark, move_first};
 use ocm_base::{List, NoMemory};
-use ocm_rules::Subject;
+use ocm_rules::{Subject, row_at};
 use ocm_types::{Host, Letter, Numbered, ProviderId};
 use std::alloc::Global;
 use std::collections::HashMap;
@@ -53,14 +54,6 @@ impl Outbox {
             changes: 0,
             alloc,
         }
-    }
-
-    /// How many messages there are, at most 1,048,576.
-    pub fn count(&self) -> u32
-        ensures value { result ≡ length self.now.sent }
-        ensures within { length self.now.sent ≤ 1048576 }
-    {
-        self.rows.len() as u32
     }
 
     /// The message of this number, as it is sent. None where there is none.
@@ -116,7 +109,7 @@ impl Outbox {
     /// Adds a message, and gives its number. It takes no memory.
     pub fn push(&mut self, subject: Subject, to: Host, letter: Letter) -> u32
         requires room { 0 < self.old.room }
-        requires few { length self.old.sent < 1048576 }
+        requires few { length self.old.sent < most_messages }
         ensures sent { self.new.sent ≡ self.old.sent ++ new_sent_row (record { subject = subject; to = to; letter = letter }) ∷ [] }
         ensures number { result ≡ length self.old.sent + 1 }
         ensures room { self.old.room ≤ self.new.room + 1 }

@@ -24,16 +24,6 @@ pub struct Thread {
     pub last: u32,
 }
 
-/// The row of this number, where the first has number 1.
-pub fn row_at(rows: &[Sent], number: u32) -> Option<&Sent>
-    ensures { option_copied result ≡ at_number rows.now number }
-{
-    match number.checked_sub(1) {
-        Some(index) => rows.get(index as usize),
-        None => None,
-    }
-}
-
 /// Whether a letter tells changed permissions.
 pub fn is_change(letter: &Letter) -> bool
     ensures { result ≡ is_change letter.now }

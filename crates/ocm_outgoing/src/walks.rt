@@ -9,9 +9,9 @@ ghost use Rattle.ocm_outgoing.specs.declared.rows.Sent.{Sent};
 ghost use Rattle.ocm_outgoing.specs.declared.rows.Thread.{Thread};
 ghost use Rattle.ocm_outgoing.specs.Threads.{marked, linked, with_link, first_or, begins_at, moved, waiting, IsWalk, IsFound, at_numbers, firsts, same_key, thread_of};
 
-use crate::rows::{Sent, Thread, row_at};
+use crate::rows::{Sent, Thread};
 use ocm_base::{List, NoMemory};
-use ocm_rules::Subject;
+use ocm_rules::{Subject, row_at};
 use ocm_types::Numbered;
 use std::alloc::Global;
 use std::collections::HashMap;

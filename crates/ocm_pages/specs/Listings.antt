@@ -7,25 +7,16 @@ use Rattle.serde_json.specs.View.{items_of}
 use Rattle.ocm_types.specs.declared.addresses.Address.{Address}
 use Rattle.ocm_types.specs.declared.letters.Offer.{Offer}
 use Rattle.ocm_types.specs.declared.phases.Phase.{Phase}
-use Rattle.ocm_types.specs.declared.phases.Phase.TheVariants.{Pending, Accepting, Confirmed, Refused, Declined, Removed}
 use Rattle.ocm_types.specs.declared.phases.RequestPhase.{RequestPhase}
 use Rattle.ocm_types.specs.declared.phases.RequestPhase.TheVariants as states
 use Rattle.ocm_types.specs.declared.rights.Rights.{Rights}
+use Rattle.ocm_types.specs.Phases.{phase_word}
 use Rattle.ocm_path.specs.Paths.{Segments, path_escaped}
 use Rattle.ocm_entry.specs.declared.listings.Line.{Line}
 use Rattle.ocm_entry.specs.declared.listings.Line.TheVariants as lines
 use Rattle.ocm_records.specs.Written.{address_data, perms_data, member_if, data_if}
 use Rattle.ocm_pages.specs.declared.listings.Part.{Part}
 use Rattle.ocm_pages.specs.declared.listings.Part.TheVariants.{Received, Requests, Shares}
-
--- the phase of a received offer
-abbrev pub phase_word : Phase → List ℕ
-phase_word Pending = codes "pending"
-phase_word Accepting = codes "accepting"
-phase_word Confirmed = codes "confirmed"
-phase_word Refused = codes "refused"
-phase_word Declined = codes "declined"
-phase_word Removed = codes "removed"
 
 -- the members of a received offer from `permissions` on
 abbrev pub offered_members : Offer → Phase → Members

@@ -27,20 +27,6 @@ pub enum Part {
     Shares,
 }
 
-/// The phase of a received offer, in one word.
-fn phase_word(phase: Phase) -> &'static str
-    ensures { result.now ≡ listings.phase_word phase }
-{
-    match phase {
-        Phase::Pending => "pending",
-        Phase::Accepting => "accepting",
-        Phase::Confirmed => "confirmed",
-        Phase::Refused => "refused",
-        Phase::Declined => "declined",
-        Phase::Removed => "removed",
-    }
-}
-
 /// The phase of a request, in one word.
 fn request_word(state: &RequestPhase) -> &'static str
     ensures { result.now ≡ listings.request_word state.now }
@@ -84,7 +70,7 @@ fn offered_members(
     let mut members = Map::new(alloc);
     put_text(&mut members, alloc, "sharedSecret", offer.secret.as_str())?;
     put_text(&mut members, alloc, "providerId", offer.id.as_str())?;
-    put_text(&mut members, alloc, "phase", phase_word(phase))?;
+    put_text(&mut members, alloc, "phase", phase.word())?;
     let perms = perms_value(alloc, offer.perms)?;
     put(&mut members, alloc, "permissions", perms)?;
     Ok(members)

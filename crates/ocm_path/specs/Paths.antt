@@ -3,6 +3,7 @@ use Rattle.std.specs.Prelude.{ℕ, ◌-◌, Bool, not, ◌&&◌, ◌||◌, ◌==
 use Rattle.std.specs.List.{flat_map, list_any, list_all, slice_split, starts_with}
 use Rattle.std.specs.Str.{is_utf8}
 use Rattle.std.specs.Cmp.Lexicographic.{pointwise}
+use Rattle.ocm_limits.specs.Limits.{most_path_bytes}
 use Rattle.percent_encoding.specs.Percent.{percent_decode}
 use Rattle.ocm_path.specs.Escapes.{escape, are_escapes}
 use Rattle.ocm_path.specs.declared.faults.PathFault.{PathFault}
@@ -66,7 +67,7 @@ is_segment s = is_utf8 s && not (length s == 0) && not (is_dots s) && not (list_
 
 -- whether segments are a path: each is one, and their text has at most 2,048 bytes
 abbrev pub is_path : Segments → Bool
-is_path path = list_all is_segment path && nat_le (length (path_text path)) 2048
+is_path path = list_all is_segment path && nat_le (length (path_text path)) most_path_bytes
 
 -- the first fault of a segment that is a text
 abbrev pub text_fault : List ℕ → Option PathFault

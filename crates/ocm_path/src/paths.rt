@@ -1,4 +1,5 @@
 ghost use Rattle.std.specs.Prelude.{◌≡◌, ◌≢◌, [], ◌++◌, ◌≤◌, length, drop, Some, None, Ok, Err, IfOk, IfErr, IsTrue, option_copied};
+ghost use Rattle.ocm_limits.specs.Limits.{most_path_bytes};
 ghost use Rattle.ocm_path.specs.Paths.{parent, is_root, last, is_above, path_text, path_escaped, is_path, path_below, path_of, path_given};
 
 use crate::faults::PathFault;
@@ -165,7 +166,7 @@ impl Path {
     /// segments, with those of `to` in place of as many as `from` has. The text of what is made has at
     /// most 2,048 bytes.
     pub fn moved(&self, from: &Path, to: &Path) -> Result<Path, NoMemory>
-        requires within { length (path_text (to.now ++ drop (length from.now) self.now)) ≤ 2048 }
+        requires within { length (path_text (to.now ++ drop (length from.now) self.now)) ≤ most_path_bytes }
         ensures { IfOk result (λ path. path ≡ to.now ++ drop (length from.now) self.now) }
     {
         let mut segments = to.segments.copy()?;

@@ -6,12 +6,10 @@ use crate::limits::is_full;
 use crate::plans::Planned;
 use ocm_base::NoMemory;
 use ocm_entry::{Reply, Why};
+use ocm_limits::MOST_USERS;
 use ocm_tables::{Change, Tables};
 use ocm_types::{Fresh, Name, Which};
 use ocm_users::PlannedUser;
-
-/// The most users of a server.
-const MOST_USERS: u32 = 4096;
 
 /// A new user, whose key is drawn.
 pub fn plan_new_user(tables: &Tables, name: &Name, fresh: &Fresh) -> Result<Planned, NoMemory>

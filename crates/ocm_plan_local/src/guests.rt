@@ -1,5 +1,6 @@
 //! Commands of users about the shares that they received, and about their requests.
 ghost use Rattle.std.specs.Prelude.{◌≡◌, ◌<◌, IfOk, Some, length, option_copied, true};
+ghost use Rattle.ocm_limits.specs.Limits.{most_requests};
 ghost use Rattle.ocm_entry.specs.declared.asks.Ask.TheVariants as asks;
 ghost use Rattle.ocm_entry.specs.declared.asks.Cmd.TheVariants as commands;
 ghost use Rattle.ocm_rules.specs.Answers.{may_share};
@@ -15,12 +16,10 @@ use ocm_base::NoMemory;
 use ocm_entry::{Reply, Request, Why};
 use ocm_incoming::Record;
 use ocm_letters::{acceptance, refusal, reshare_request, undo_of};
+use ocm_limits::MOST_REQUESTS;
 use ocm_plan::{Planned, is_full, one_message};
 use ocm_tables::{Change, Tables};
 use ocm_types::{Address, Need, Perms, Phase, ProviderId, RequestPhase, Rights, Secret, Which};
-
-/// The most requests of a server.
-const MOST_REQUESTS: u32 = 65_536;
 
 /// Whether the recipient of an offer has not decided.
 fn is_pending(phase: Phase) -> bool
@@ -144,7 +143,7 @@ fn plan_request(
     requires owned { IsOwnRecord tables.now.state user number received.now }
     requires confirmed { is_confirmed received.now.phase ≡ true }
     requires permitted { may_share ((view_in tables.now.state).told number).perms perms ≡ true }
-    requires few { length tables.now.state.requests < 65536 }
+    requires few { length tables.now.state.requests < most_requests }
     ensures { IfOk result (λ plan. Plans tables.now.state (asks.Local key.now (commands.Reshare number with.now perms)) plan) }
 {
     let r = tables.request_count() + 1;

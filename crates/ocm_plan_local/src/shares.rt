@@ -1,5 +1,6 @@
 //! Commands of users about their own shares.
 ghost use Rattle.std.specs.Prelude.{◌≡◌, ◌+◌, ◌<◌, ◌∷◌, [], ◌||◌, IfOk, IsTrue, Some, length, map, nat_lt};
+ghost use Rattle.ocm_limits.specs.Limits.{most_changes, most_restrictions, most_shares};
 ghost use Rattle.ocm_entry.specs.declared.asks.Ask.TheVariants as asks;
 ghost use Rattle.ocm_entry.specs.declared.asks.Cmd.TheVariants as commands;
 ghost use Rattle.ocm_entry.specs.Proper.{is_short};
@@ -18,21 +19,13 @@ use ocm_base::{List, NoMemory};
 use ocm_chain::{Change as Changed, PlannedShare, plan_share};
 use ocm_entry::{AddressField, Reply, Share, Why};
 use ocm_letters::{NewPerms, changed_all, offered, own_share};
+use ocm_limits::{MOST_CHANGES, MOST_RESTRICTIONS, MOST_SHARES};
 use ocm_path::Path;
 use ocm_plan::{Planned, is_full, one_message, told_of_ends};
 use ocm_rules::Message;
 use ocm_tables::{Change, Tables};
 use ocm_types::{Address, Fresh, Name, Perms, Secret, Which};
 use std::alloc::Global;
-
-/// The most shares of a server, ended ones among them.
-const MOST_SHARES: u32 = 65_536;
-
-/// The most messages that tell changed permissions.
-const MOST_CHANGES: usize = 655_360;
-
-/// The most limits of shares.
-const MOST_LIMITS: u32 = 4_294_967_295;
 
 /// The end of a share, by the user of this number, who has this key.
 pub fn plan_unshare(tables: &Tables, key: &Secret, user: u32, id: u32) -> Result<Planned, NoMemory>
@@ -108,19 +101,19 @@ fn plan_new_perms(
 fn is_full_of_changes(tables: &Tables, more: usize) -> bool
     ensures { result ≡ is_full_of_changes (view_in tables.now.state) more }
 {
-    are_too_many(tables.change_count(), more) || is_full(tables.limits(), MOST_LIMITS)
+    are_too_many(tables.change_count(), more) || is_full(tables.limits(), MOST_RESTRICTIONS)
 }
 
 /// Whether so many more messages that tell changed permissions would be too many.
 fn are_too_many(count: u32, more: usize) -> bool
-    ensures { result ≡ nat_lt 655360 (count + more) }
+    ensures { result ≡ nat_lt most_changes (count + more) }
 {
     more.saturating_add(count as usize) > MOST_CHANGES
 }
 
 /// The messages that tell the guests of shares what they may do from now on, by one limit more.
 fn told_of_changes(tables: &Tables, told: &List<Changed>) -> Result<List<Message>, NoMemory>
-    requires { tables.now.state.limits < 4294967295 }
+    requires { tables.now.state.limits < most_restrictions }
     ensures { IfOk result (λ sent. sent ≡ changed_to_guests (view_in tables.now.state).shares (tables.now.state.limits + 1) (map new_perms told.now)) }
 {
     let alloc = tables.allocator();
@@ -200,7 +193,7 @@ fn plan_offered(
     owner: &Name,
     share: Share,
 ) -> Result<(PlannedShare, List<Message>), NoMemory>
-    requires { length tables.now.state.shares < 65536 }
+    requires { length tables.now.state.shares < most_shares }
     ensures share { IfOk result (λ made. made.0 ≡ share) }
     ensures sent { IfOk result (λ made. made.1 ≡ offered_from tables.now.state.host owner.now (length tables.now.state.shares + 1) share ∷ []) }
 {

@@ -11,15 +11,10 @@ ghost use Rattle.ocm_plan_peers.specs.OfferLimits.{limit_of_offer};
 use ocm_base::NoMemory;
 use ocm_entry::{AddressField, Reply, Why};
 use ocm_incoming::{PlannedOffer, plan_offer as planned_offer};
+use ocm_limits::{MOST_PENDING, MOST_RECORDS};
 use ocm_plan::{Planned, is_full};
 use ocm_tables::{Change, Tables};
 use ocm_types::{Name, Offer, Which};
-
-/// The most received offers of one user that are not decided.
-const MOST_PENDING: u32 = 256;
-
-/// The most received offers of a server.
-const MOST_RECORDS: u32 = 65_536;
 
 /// An offer for a user of this server: it becomes one more received offer, unless an equal one was
 /// received before.

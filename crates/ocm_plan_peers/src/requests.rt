@@ -2,6 +2,7 @@
 ghost use Rattle.std.specs.Prelude.{◌≡◌, ◌<◌, ◌+◌, ◌∷◌, [], ◌&&◌, ℕ, IfErr, IfOk, IsSome, List, OnOk, false, if◌then◌else◌, length, option_copied, unwrap_or};
 ghost use Rattle.std.specs.Option.{option_map_or};
 ghost use Rattle.ocm_base.specs.Hex.{hex};
+ghost use Rattle.ocm_limits.specs.Limits.{most_shares};
 ghost use Rattle.ocm_entry.specs.declared.asks.Ask.{Ask};
 ghost use Rattle.ocm_entry.specs.declared.asks.Ask.TheVariants as asks;
 ghost use Rattle.ocm_entry.specs.declared.refusals.Why.TheVariants.{Collision};
@@ -22,13 +23,11 @@ use ocm_base::{List, NoMemory};
 use ocm_chain::{PlannedShare, plan_share};
 use ocm_entry::{AddressField, Reply, Share, Why};
 use ocm_letters::{child_share, offered};
+use ocm_limits::MOST_SHARES;
 use ocm_plan::{Planned, is_full, one_message};
 use ocm_rules::Message;
 use ocm_tables::{Change, Tables};
 use ocm_types::{Address, Fresh, Name, Perms, ProviderId, Rights, Secret, SenderId, Which};
-
-/// The most shares of a server, ended ones too.
-const MOST_SHARES: u32 = 65_536;
 
 /// A guest asks that a share be shared further.
 pub fn plan_request(
@@ -127,7 +126,7 @@ fn granted_to(
     requires { IsSome (at_number (view_in tables.now.state).shares parent) }
     ensures refused { IfErr result (λ why. (secret : List ℕ) → refused why ≡ first_reply (view_in tables.now.state) parent with.now asked.now secret) }
     ensures granted { IfOk result (λ granted. granted ≡ unwrap_or asked.now (effective_in (view_in tables.now.state) parent)) }
-    ensures few { OnOk result (length tables.now.state.shares < 65536) }
+    ensures few { OnOk result (length tables.now.state.shares < most_shares) }
     ensures free { OnOk result ((secret : List ℕ) → (if is_used tables.now.state.users (view_in tables.now.state).shares secret then refused Collision else Reply.Child (length tables.now.state.shares + 1))
         ≡ first_reply (view_in tables.now.state) parent with.now asked.now secret) }
 {
@@ -159,7 +158,7 @@ fn plan_granted(
     fresh: &Fresh,
 ) -> Result<Planned, NoMemory>
     requires parent { IsSome (at_number (view_in tables.now.state).shares parent) }
-    requires few { length tables.now.state.shares < 65536 }
+    requires few { length tables.now.state.shares < most_shares }
     ensures { (id mark : List ℕ) → let ask : Ask = asks.Notice (notices.ReshareRequest id mark with.now sender_id.now asked.now) fresh.now in
         named id ≡ Some parent → granted.now ≡ unwrap_or asked.now (effective_in (view_in tables.now.state) parent)
         → reply_in (view_in tables.now.state) ask ≡ (if is_used tables.now.state.users (view_in tables.now.state).shares (hex fresh.now) then refused Collision else Reply.Child (length tables.now.state.shares + 1))
@@ -183,7 +182,7 @@ fn plan_child(
     secret: Secret,
 ) -> Result<Planned, NoMemory>
     requires parent { IsSome (at_number (view_in tables.now.state).shares parent) }
-    requires few { length tables.now.state.shares < 65536 }
+    requires few { length tables.now.state.shares < most_shares }
     requires secret { is_used tables.now.state.users (view_in tables.now.state).shares secret ≡ false }
     ensures { (id mark fresh : List ℕ) → let ask : Ask = asks.Notice (notices.ReshareRequest id mark with.now sender_id.now asked) fresh in
         named id ≡ Some parent → secret ≡ hex fresh → granted.now ≡ unwrap_or asked (effective_in (view_in tables.now.state) parent)
@@ -203,7 +202,7 @@ fn offered_share(
     owner: &Name,
     share: Share,
 ) -> Result<(PlannedShare, List<Message>), NoMemory>
-    requires { length tables.now.state.shares < 65536 }
+    requires { length tables.now.state.shares < most_shares }
     ensures share { IfOk result (λ made. made.0 ≡ share) }
     ensures sent { IfOk result (λ made. made.1 ≡ offered_from tables.now.state.host owner.now (length tables.now.state.shares + 1) share ∷ []) }
 {

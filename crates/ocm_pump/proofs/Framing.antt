@@ -2,6 +2,7 @@
 use Rattle.std.proofs.Common.{◌≡◌, ℕ, Bool, true, false, List, [], ◌++◌, Option, Some, None, Ok, Err, refl, sym, ap, subst, ◌∙◌, append-nil}
 use Rattle.std.specs.Prelude.{IsTrue, IfSome}
 use Rattle.ocm_base.specs.Outside.{Takes}
+use Rattle.ocm_limits.specs.Limits.{most_reply_bytes}
 use Rattle.ocm_http.specs.Frames.{Frame, Given, Refused, Awaited, Over, IsFrame}
 use Rattle.ocm_http.specs.Laws.{IsKnown, behind}
 use Rattle.ocm_http.specs.Readers.{ReaderState, Reads as ReadsFrame, ReadsMessage}
@@ -10,7 +11,7 @@ use Rattle.ocm_http.specs.declared.messages.Message.{Message}
 use Rattle.ocm_http.specs.declared.messages.FrameFault.{FrameFault}
 use Rattle.ocm_http.specs.declared.messages.FrameFault.TheVariants as frames
 use Rattle.ocm_http.proofs.Stable.{frame_stays}
-use Rattle.ocm_pump.specs.Replies.{most_body, IsReply, fault_of, reply_in, Reads, whole, wanting}
+use Rattle.ocm_pump.specs.Replies.{IsReply, fault_of, reply_in, Reads, whole, wanting}
 use Rattle.ocm_pump.specs.declared.faults.PumpFault.TheVariants.{BadReply}
 
 -- more bytes behind a reply change nothing of it
@@ -26,13 +27,13 @@ taken_of bytes got (Some left) e = (left, refl, cc)
 taken_of bytes got None e = absurd cc
 
 -- what a front of the bytes is, is what all are
-whole_frame : (got left : List ℕ) (ended : Bool) (frame : Frame) → IsFrame Replies most_body 0 got ended frame
+whole_frame : (got left : List ℕ) (ended : Bool) (frame : Frame) → IsFrame Replies most_reply_bytes 0 got ended frame
     → (ended ≡ false → IsKnown frame) → (IsTrue ended → left ≡ [])
     → (f : Frame) × IsReply (got ++ left) f × (reply_in f ≡ reply_in frame)
 whole_frame got left true frame is known over =
     (frame, subst (λ (b : List ℕ). IsReply b frame) (sym (ap (λ (l : List ℕ). got ++ l) (over refl) ∙ append-nil got)) is, refl)
 whole_frame got left false frame is known over =
-    (behind frame left, frame_stays Replies most_body 0 got left true frame is (known refl), reply_in-behind frame left)
+    (behind frame left, frame_stays Replies most_reply_bytes 0 got left true frame is (known refl), reply_in-behind frame left)
 
 -- a reader of replies at the front of its source
 abbrev pub fresh : ReaderState

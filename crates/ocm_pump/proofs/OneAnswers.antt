@@ -1,5 +1,6 @@
 -- What a delivery answers is fixed by its exchanges.
 use Rattle.std.proofs.Common.{◌≡◌, ℕ, true, List, [], ◌∷◌, ◌++◌, Option, Some, None, Result, Ok, Err, refl, sym, ap, subst, ◌∙◌}
+use Rattle.ocm_limits.specs.Limits.{most_reply_bytes}
 use Rattle.ocm_types.specs.declared.letters.Letter.{Letter}
 use Rattle.ocm_types.specs.declared.letters.Numbered.{Numbered}
 use Rattle.ocm_http.specs.declared.messages.Kind.TheVariants.{Replies}
@@ -11,7 +12,7 @@ use Rattle.ocm_pump.specs.declared.deliveries.Answered.{Answered}
 use Rattle.ocm_pump.specs.declared.faults.PumpFault.{PumpFault}
 use Rattle.ocm_pump.specs.declared.faults.PumpFault.TheVariants.{DialFault, NoDiscovery, BadReply, NoMemory}
 use Rattle.ocm_pump.specs.Exchanges.{exchanged}
-use Rattle.ocm_pump.specs.Replies.{most_body, reply_in, Reads, whole, wanting, Sends, answered, failed, short, Gives}
+use Rattle.ocm_pump.specs.Replies.{reply_in, Reads, whole, wanting, Sends, answered, failed, short, Gives}
 use Rattle.ocm_pump.specs.Delivery.{first_place, second_place, document_request, site_in, Asks, found_at_last, Discovers, at_first, stopped, at_second, post_request, answer_in, Posts, Delivers, undiscovered, posted}
 
 -- an answer other than want of memory
@@ -22,7 +23,7 @@ Known result = result ≡ Err NoMemory → ⊥
 
 reads_one : (bytes : List ℕ) (a b : Result Message PumpFault) → Reads bytes a → Reads bytes b → Known a → Known b → a ≡ b
 reads_one bytes a b (whole f is_f e) (whole g is_g h) ka kb =
-    e ∙ ap reply_in (frame_one Replies most_body 0 bytes true f g is_f is_g) ∙ sym h
+    e ∙ ap reply_in (frame_one Replies most_reply_bytes 0 bytes true f g is_f is_g) ∙ sym h
 reads_one bytes a b (wanting e) y ka kb = absurd (ka e)
 reads_one bytes a b (whole f is_f e) (wanting h) ka kb = absurd (kb h)
 

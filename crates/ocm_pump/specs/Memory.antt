@@ -1,6 +1,7 @@
 -- A dial in memory.
 use Rattle.std.specs.Prelude.{ℕ, List, ◌++◌, take, drop, slice_get, Option, Some, None}
 use Rattle.ocm_base.specs.Outside.{raised}
+use Rattle.ocm_limits.specs.Limits.{most_exchange_bytes}
 use Rattle.ocm_pump.specs.declared.exchanges.Exchange.{Exchange}
 use Rattle.ocm_pump.specs.Exchanges.{exchanged}
 
@@ -12,7 +13,7 @@ pub record DialState : Type 0 where
 
 -- the bytes that come back of a reply: 33,619,968 at most
 abbrev pub front : Option (List ℕ) → Option (List ℕ)
-front (Some bytes) = Some (take 33619968 bytes)
+front (Some bytes) = Some (take most_exchange_bytes bytes)
 front None = None
 
 -- what comes back of the next reply; after the last each exchange fails

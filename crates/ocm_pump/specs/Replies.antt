@@ -1,5 +1,6 @@
 -- The reply in the bytes that came back, and what a reader of it gives.
 use Rattle.std.specs.Prelude.{◌≡◌, ℕ, true, List, Some, None, Result, Ok, Err}
+use Rattle.ocm_limits.specs.Limits.{most_reply_bytes}
 use Rattle.ocm_http.specs.Frames.{Frame, Given, Refused, Awaited, Over, IsFrame}
 use Rattle.ocm_http.specs.declared.messages.Kind.TheVariants.{Replies}
 use Rattle.ocm_http.specs.declared.messages.Message.{Message}
@@ -10,13 +11,9 @@ use Rattle.ocm_pump.specs.declared.exchanges.Exchange.{Exchange}
 use Rattle.ocm_pump.specs.declared.faults.PumpFault.{PumpFault}
 use Rattle.ocm_pump.specs.declared.faults.PumpFault.TheVariants.{DialFault, BadReply, NoMemory}
 
--- the most bytes of a reply's body
-abbrev pub most_body : ℕ
-most_body = 33554432
-
 -- what the bytes are that came back until the peer closed
 abbrev pub IsReply : List ℕ → Frame → Type 0
-IsReply bytes frame = IsFrame Replies most_body 0 bytes true frame
+IsReply bytes frame = IsFrame Replies most_reply_bytes 0 bytes true frame
 
 -- a fault of the bytes, with its place; a reply that is cut counts as faulty at its front. No bytes have the last two
 abbrev pub fault_of : FrameFault → PumpFault

@@ -1,5 +1,6 @@
 ghost use Rattle.std.specs.Prelude.{◌≡◌, ℕ, ◌≤◌, List, length, Option, Err, IfOk};
 ghost use Rattle.ocm_base.specs.Outside.{Rose};
+ghost use Rattle.ocm_limits.specs.Limits.{most_exchange_bytes};
 ghost use Rattle.ocm_pump.specs.Exchanges.{AddsOne};
 ghost use Rattle.ocm_pump.specs.declared.exchanges.Exchange.{Exchange};
 
@@ -18,7 +19,7 @@ pub trait Dial: Drop {
 
     /// Sends a request to a host, and gives the bytes that came back until the peer closed: at most 33,619,968.
     fn exchange(&mut self, alloc: Global, host: &Host, request: &Bytes) -> Result<Bytes, DialEnd>
-        ensures within { IfOk result (λ reply. length reply ≤ 33619968) }
+        ensures within { IfOk result (λ reply. length reply ≤ most_exchange_bytes) }
         ensures added { AddsOne (exchanges self.old) (exchanges self.new) host.now request.now result }
         ensures rose { result ≡ Err DialEnd.Failed → Rose (faults self.old) (faults self.new) }
         ensures never_falls { faults self.old ≤ faults self.new };

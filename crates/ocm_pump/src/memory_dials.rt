@@ -1,17 +1,16 @@
 ghost use Rattle.std.specs.Prelude.{◌≡◌, ◌+◌, ◌≤◌, min, [], length, take, reverse, Some, None, Ok, Err, IfOk, IfSome, option_copied};
 ghost use Rattle.ocm_base.specs.Outside.{Rose};
+ghost use Rattle.ocm_limits.specs.Limits.{most_exchange_bytes};
 ghost use Rattle.ocm_pump.specs.Exchanges.{AddsOne};
 ghost use Rattle.ocm_pump.specs.Memory as memory;
 
 use crate::dials::Dial;
 use crate::exchanges::{DialEnd, Exchange};
 use ocm_base::{Bytes, List, NoMemory};
+use ocm_limits::MOST_EXCHANGE_BYTES;
 use ocm_types::Host;
 use std::alloc::Global;
 use std::marker::Model;
-
-/// How many bytes come back of a reply at most.
-const MOST: usize = 33_619_968;
 
 /// A dial that answers out of memory. It tells its exchanges.
 #[derive(Drop)]
@@ -59,20 +58,20 @@ impl MemDial {
 
 /// The bytes that come back of a reply.
 fn front_of(bytes: &[u8]) -> &[u8]
-    ensures front { result.now ≡ take 33619968 bytes.now }
-    ensures within { length result.now ≤ 33619968 }
+    ensures front { result.now ≡ take most_exchange_bytes bytes.now }
+    ensures within { length result.now ≤ most_exchange_bytes }
 {
-    if bytes.len() <= MOST {
+    if bytes.len() <= MOST_EXCHANGE_BYTES {
         bytes
     } else {
-        &bytes[..MOST]
+        &bytes[..MOST_EXCHANGE_BYTES]
     }
 }
 
 /// What comes back of a reply, where there is one.
 fn front_at(alloc: Global, reply: Option<&Option<Bytes>>) -> Result<Option<Bytes>, NoMemory>
     ensures front { IfOk result (λ front. front ≡ memory.front_at (option_copied reply.entry)) }
-    ensures within { IfOk result (λ front. IfSome front (λ bytes. length bytes ≤ 33619968)) }
+    ensures within { IfOk result (λ front. IfSome front (λ bytes. length bytes ≤ most_exchange_bytes)) }
 {
     match reply {
         Some(Some(bytes)) => {
@@ -119,7 +118,7 @@ impl Dial for MemDial {
     /// Gives the next reply, and fails exactly where that is None or there is none. Where there is no memory nothing is
     /// changed.
     fn exchange(&mut self, alloc: Global, host: &Host, request: &Bytes) -> Result<Bytes, DialEnd>
-        ensures within { IfOk result (λ reply. length reply ≤ 33619968) }
+        ensures within { IfOk result (λ reply. length reply ≤ most_exchange_bytes) }
         ensures added { AddsOne (Some self.old.exchanges) (Some self.new.exchanges) host.now request.now result }
         ensures rose { result ≡ Err DialEnd.Failed → Rose self.old.faults self.new.faults }
         ensures never_falls { self.old.faults ≤ self.new.faults }

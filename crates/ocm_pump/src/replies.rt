@@ -9,11 +9,9 @@ use crate::exchanges::DialEnd;
 use crate::faults::PumpFault;
 use ocm_base::{Bytes, PureSource};
 use ocm_http::{FrameFault, Message, Reader};
+use ocm_limits::MOST_REPLY_BYTES;
 use ocm_types::Host;
 use std::alloc::Global;
-
-/// The most bytes of a reply's body.
-const MOST_BODY: u64 = 33_554_432;
 
 /// The most bytes that are read at once.
 const PIECE: usize = 4096;
@@ -38,7 +36,7 @@ fn fault_of(fault: FrameFault) -> PumpFault
 fn read_reply(alloc: Global, bytes: Bytes) -> Result<Message, PumpFault>
     ensures { Reads bytes result }
 {
-    let mut reader = Reader::replies(alloc, MOST_BODY)?;
+    let mut reader = Reader::replies(alloc, MOST_REPLY_BYTES)?;
     let mut source = PureSource::new(bytes, PIECE);
     match reader.next(&mut source) {
         Ok(Some(message)) => Ok(message),

@@ -16,12 +16,13 @@ ghost use Rattle.ocm_reference.specs.Histories.{ArePlain, gets_or_puts, is_plain
 
 use crate::files::{below, limit_of, parent_of, standing_at};
 use crate::histories::kept_of;
-use crate::numbers::row_at;
 use crate::shares::{grant_to, is_live, is_used, made_of, permits};
 use crate::users::{is_taken, user_of_key, users_of};
 use ocm_base::{Bytes, NoMemory};
 use ocm_entry::{AddressField, Ask, Cmd, Entry, Method, Node, Place, Reply, Share, Standing, Why};
+use ocm_limits::{MOST_SHARES, MOST_USERS};
 use ocm_path::Path;
+use ocm_rules::row_at;
 use ocm_types::{Address, Fresh, Host, Name, Secret, Which};
 use std::alloc::Global;
 
@@ -99,7 +100,7 @@ fn add_user_reply(taken: bool, count: usize, used: bool, key: Secret) -> Reply
 {
     if taken {
         refused(Why::UserExists)
-    } else if count >= 4096 {
+    } else if count >= MOST_USERS as usize {
         refused(Why::Limit {
             which: Which::Users,
         })
@@ -188,7 +189,7 @@ fn share_reply(own_host: bool, standing: Option<Standing>, count: usize, used: b
 fn made_reply(count: usize, used: bool) -> Reply
     ensures { result ≡ share_reply false (Some standings.Collection) count used }
 {
-    if count >= 65_536 {
+    if count >= MOST_SHARES as usize {
         refused(Why::Limit {
             which: Which::Shares,
         })

@@ -1,4 +1,5 @@
 ghost use Rattle.std.specs.Prelude.{◌≡◌, ◌+◌, ◌-◌, ◌++◌, ◌<◌, ◌≤◌, ◌^◌, min, IfOk, OnOk, IsTrue, length, nat_lt, if◌then◌else◌, Some, None};
+ghost use Rattle.ocm_limits.specs.Limits.{most_children, most_file_bytes, most_nodes, most_stored_bytes};
 ghost use Rattle.ocm_entry.specs.Proper.{is_short};
 ghost use Rattle.ocm_entry.specs.declared.asks.Ask.TheVariants as asks;
 ghost use Rattle.ocm_rules.specs.Files.{act_after, act_by, at, below, child_count, left_at, limit_of, nodes, parent_of, passed_by, same_place, size_of, total_size, with_node};
@@ -9,6 +10,7 @@ use crate::shares::{made_of, root_of};
 use crate::users::users_of;
 use ocm_base::{Bytes, List, NoMemory};
 use ocm_entry::{Ask, Entry, Method, Node, Place, Share, Standing, User};
+use ocm_limits::{MOST_CHILDREN, MOST_FILE_BYTES, MOST_NODES, MOST_STORED_BYTES};
 use ocm_path::Path;
 use ocm_types::{Host, Secret, Which};
 use std::alloc::Global;
@@ -275,9 +277,9 @@ fn child_count(nodes: &[Node], place: &Place) -> Result<usize, NoMemory>
 /// Whether all files have more bytes than they may.
 #[tactic(auto, using(crate::proofs::Lists::over_all_files))]
 fn passes_all_files(nodes: &[Node]) -> bool
-    ensures { result ≡ nat_lt 268435456 (total_size nodes.now) }
+    ensures { result ≡ nat_lt most_stored_bytes (total_size nodes.now) }
 {
-    total_size(nodes) > 268_435_456
+    total_size(nodes) > MOST_STORED_BYTES
 }
 
 /// The first limit that the nodes pass, where this node is the one that was put last.
@@ -293,18 +295,18 @@ fn passed_by(nodes: &[Node], node: &Node) -> Result<Option<Which>, NoMemory>
 /// The first limit that is passed: the bytes of a file, whether all files have more than they may,
 /// how many nodes there are, and how many of them lie in the file's collection.
 fn first_passed(size: u64, over: bool, count: usize, children: usize) -> Option<Which>
-    ensures { result ≡ (if nat_lt 1048576 size then Some Which.FileSize
+    ensures { result ≡ (if nat_lt most_file_bytes size then Some Which.FileSize
         else (if over then Some Which.AllFiles
-        else (if nat_lt 65536 count then Some Which.Nodes
-        else (if nat_lt 4096 children then Some Which.Children else None)))) }
+        else (if nat_lt most_nodes count then Some Which.Nodes
+        else (if nat_lt most_children children then Some Which.Children else None)))) }
 {
-    if size > 1_048_576 {
+    if size > MOST_FILE_BYTES {
         Some(Which::FileSize)
     } else if over {
         Some(Which::AllFiles)
-    } else if count > 65_536 {
+    } else if count > MOST_NODES as usize {
         Some(Which::Nodes)
-    } else if children > 4_096 {
+    } else if children > MOST_CHILDREN as usize {
         Some(Which::Children)
     } else {
         None

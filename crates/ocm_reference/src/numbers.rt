@@ -16,13 +16,3 @@ pub fn added<T: Drop>(mut items: List<T>, item: Option<T>) -> Result<List<T>, No
         }
     }
 }
-
-/// The one of this number, where the first has number 1.
-pub fn row_at<T>(rows: &[T], number: u32) -> Option<&T>
-    ensures { option_copied result ≡ at_number rows.now number }
-{
-    match number.checked_sub(1) {
-        Some(index) => rows.get(index as usize),
-        None => None,
-    }
-}

@@ -13,11 +13,12 @@ ghost use Rattle.ocm_rules.specs.Users.{user_of_key};
 ghost use Rattle.ocm_rules.specs.Views.{grant_in};
 ghost use Rattle.ocm_reference.specs.Histories.{ArePlain, AreShort, is_plain};
 
-use crate::numbers::{added, row_at};
+use crate::numbers::added;
 use crate::users::{name_of, user_of_key, users_of};
 use ocm_base::{List, NoMemory};
 use ocm_entry::{Ask, Cmd, Entry, Grant, Method, Place, Share, User};
 use ocm_path::Path;
+use ocm_rules::row_at;
 use ocm_types::{Address, Fresh, Host, Perms, Rights, Secret};
 use std::alloc::Global;
 

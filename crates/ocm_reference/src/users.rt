@@ -2,9 +2,10 @@ ghost use Rattle.std.specs.Prelude.{◌≡◌, ◌+◌, ◌<◌, ◌≤◌, ◌^
 ghost use Rattle.ocm_rules.specs.Numbers.{number_from};
 ghost use Rattle.ocm_rules.specs.Users.{has_key, is_taken, name_of, user_by, user_of_key, users};
 
-use crate::numbers::{added, row_at};
+use crate::numbers::added;
 use ocm_base::{List, NoMemory};
 use ocm_entry::{Ask, Entry, Reply, User};
+use ocm_rules::row_at;
 use ocm_types::{Name, Secret};
 use std::alloc::Global;
 

@@ -1,5 +1,6 @@
 -- What is read, and what is asked of whom.
 use Rattle.std.specs.Prelude.{◌≡◌, ℕ, ◌≤◌, List, [], ◌++◌, length, Option, IfSome, Result, Ok, Err}
+use Rattle.ocm_limits.specs.Limits.{most_body_bytes}
 use Rattle.ocm_path.specs.Paths.{Segments}
 use Rattle.ocm_pump.specs.Exchanges.{AddsSome}
 use Rattle.ocm_pump.specs.declared.exchanges.Exchange.{Exchange}
@@ -12,13 +13,9 @@ use Rattle.ocm_remote.specs.declared.verbs.Verb.TheVariants as verbs
 
 -- ---- what is read
 
--- the most bytes that are put
-abbrev pub most_body : ℕ
-most_body = 1048576
-
 -- the body is the whole of what a source had left, where it tells that, and nothing is left now
 abbrev pub IsWhole : Option (List ℕ) → Option (List ℕ) → List ℕ → Type 0
-IsWhole old new body = IfSome old (λ bytes. body ≡ bytes) × IfSome new (λ rest. rest ≡ []) × (length body ≤ most_body)
+IsWhole old new body = IfSome old (λ bytes. body ≡ bytes) × IfSome new (λ rest. rest ≡ []) × (length body ≤ most_body_bytes)
 
 -- nothing was read, and the body is empty
 abbrev pub IsUnread : Option (List ℕ) → Option (List ℕ) → List ℕ → Type 0

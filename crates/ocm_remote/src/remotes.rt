@@ -1,9 +1,10 @@
 ghost use Rattle.std.specs.Prelude.{◌≡◌, ◌≢◌, ◌⊎◌, ◌<◌, List, ℕ, Result, IfSome, length, map};
 ghost use Rattle.std.specs.String.{string_bytes};
 ghost use Rattle.ocm_base.specs.Outside.{Appends, AppendsPart, Rose};
+ghost use Rattle.ocm_limits.specs.Limits.{most_body_bytes};
 ghost use Rattle.ocm_davclient.specs.declared.faults.ClientFault.{ClientFault};
 ghost use Rattle.ocm_remote.specs.Answers.{IsTold, end_of, text_of};
-ghost use Rattle.ocm_remote.specs.Exchanges.{AsksPut, Does, DoesAsked, most_body};
+ghost use Rattle.ocm_remote.specs.Exchanges.{AsksPut, Does, DoesAsked};
 ghost use Rattle.ocm_remote.specs.Words.{IsOther, usage_line};
 ghost use Rattle.ocm_remote.specs.declared.verbs.Verb.TheVariants as verbs;
 
@@ -36,7 +37,7 @@ pub fn remote<S: Source, K: Sink, N: Dial>(
     // the source: only the bytes of `put` are read
     ensures unread { (AsksPut (map (λ word. string_bytes word) words.now) → ⊥) → source.new ≡ source.old }
     ensures read_fault { result ≡ End.ReadFault → AsksPut (map (λ word. string_bytes word) words.now) × Rose (S.faults source.old) (S.faults source.new) }
-    ensures too_long { result ≡ End.TooLong → AsksPut (map (λ word. string_bytes word) words.now) × IfSome (S.left source.old) (λ bytes. most_body < length bytes) }
+    ensures too_long { result ≡ End.TooLong → AsksPut (map (λ word. string_bytes word) words.now) × IfSome (S.left source.old) (λ bytes. most_body_bytes < length bytes) }
 
     // where nobody is asked, and where nothing is written
     ensures unasked { IsOther (map (λ word. string_bytes word) words.now) ⊎ (result ≡ End.ReadFault) ⊎ (result ≡ End.TooLong) → dial.new ≡ dial.old }
@@ -73,7 +74,7 @@ fn run<S: Source, K: Sink, N: Dial>(
     ensures no_usage { result ≢ End.Usage }
     ensures unread { task.verb ≢ verbs.Put → source.new ≡ source.old }
     ensures read_fault { result ≡ End.ReadFault → (task.verb ≡ verbs.Put) × Rose (S.faults source.old) (S.faults source.new) }
-    ensures too_long { result ≡ End.TooLong → (task.verb ≡ verbs.Put) × IfSome (S.left source.old) (λ bytes. most_body < length bytes) }
+    ensures too_long { result ≡ End.TooLong → (task.verb ≡ verbs.Put) × IfSome (S.left source.old) (λ bytes. most_body_bytes < length bytes) }
     ensures unasked { (result ≡ End.ReadFault) ⊎ (result ≡ End.TooLong) → dial.new ≡ dial.old }
     ensures unwritten { (result ≡ End.ReadFault) ⊎ (result ≡ End.TooLong) ⊎ (result ≡ End.NoMemory) → K.taken sink.new ≡ K.taken sink.old }
     ensures exact { IsTold result → (answer : Result (List ℕ) ClientFault)

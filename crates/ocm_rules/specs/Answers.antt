@@ -1,6 +1,7 @@
 use Rattle.std.specs.Prelude.{ℕ, ◌+◌, List, [], ◌∷◌, ◌++◌, length, map, filter_map, count_by, nat_eq, nat_lt, Bool, true, false, not, ◌&&◌, ◌||◌, if◌then◌else◌, Option, Some, None, is_some, option_map, option_and_then}
 use Rattle.std.specs.Option.{option_map_or}
 use Rattle.ocm_base.specs.Hex.{hex}
+use Rattle.ocm_limits.specs.Limits.{most_changes, most_pending, most_records, most_requests, most_restrictions, most_shares, most_users}
 use Rattle.ocm_path.specs.Paths.{Segments, is_root}
 use Rattle.ocm_types.specs.declared.addresses.Address.{Address}
 use Rattle.ocm_types.specs.declared.letters.Offer.{Offer}
@@ -162,7 +163,7 @@ carry_reply v (Some grant) from to moving overwrite =
 abbrev pub add_user_reply : Bool → ℕ → Bool → List ℕ → Reply
 add_user_reply taken count used key =
     if taken then refused UserExists
-    else (if nat_lt 4096 (count + 1) then limited limits.Users
+    else (if nat_lt most_users (count + 1) then limited limits.Users
     else (if used then refused Collision else replies.Key key))
 
 -- a new share: whether the guest is of this host, what stands at the path, how many shares there are, whether the secret is used
@@ -170,7 +171,7 @@ abbrev pub share_reply : Bool → Option Standing → ℕ → Bool → Reply
 share_reply own_host standing count used =
     if own_host then refused (OwnHost fields.ShareWith)
     else (if not (is_some standing) then refused NotFound
-    else (if nat_lt 65536 (count + 1) then limited limits.Shares
+    else (if nat_lt most_shares (count + 1) then limited limits.Shares
     else (if used then refused Collision else replies.Number (count + 1))))
 
 -- the end of a share, at once or at a moment: the user's share, and whether it is live
@@ -180,7 +181,7 @@ end_reply (Some share) live = if live then replies.Done else refused WrongPhase
 
 -- whether so many more messages that tell changed permissions, or one more limit, would pass a limit
 abbrev pub is_full_of_changes : View → ℕ → Bool
-is_full_of_changes v more = nat_lt 655360 (change_count v.messages + more) || nat_lt 4294967295 (v.limits + 1)
+is_full_of_changes v more = nat_lt most_changes (change_count v.messages + more) || nat_lt most_restrictions (v.limits + 1)
 
 -- other permissions for a share: the user's share, whether it is live, the permissions, whether a limit would be passed
 abbrev pub limit_reply : Option Share → Bool → Rights → Bool → Reply
@@ -205,7 +206,7 @@ reshare_reply None phase rights asked count = refused NotFound
 reshare_reply (Some offer) phase rights asked count =
     if not (is_confirmed phase) then refused WrongPhase
     else (if not (may_share rights asked) then refused NotPermitted
-    else (if nat_lt 65536 (count + 1) then limited limits.Requests else replies.Number (count + 1)))
+    else (if nat_lt most_requests (count + 1) then limited limits.Requests else replies.Number (count + 1)))
 
 -- ---- what a user lists
 
@@ -258,8 +259,8 @@ pending_count v name = count_by (λ n. is_pending (v.phase n) && option_map_or (
 abbrev pub new_offer_reply : View → Offer → Reply
 new_offer_reply v offer =
     if is_known v.offers offer then replies.Recipient offer.with.user
-    else (if nat_lt 256 (pending_count v offer.with.user + 1) then limited limits.Pending
-    else (if nat_lt 65536 (length v.offers + 1) then limited limits.Records
+    else (if nat_lt most_pending (pending_count v offer.with.user + 1) then limited limits.Pending
+    else (if nat_lt most_records (length v.offers + 1) then limited limits.Records
     else replies.Recipient offer.with.user))
 
 -- an offer (OCM API 1.1, `/shares`)
@@ -324,7 +325,7 @@ first_reply v parent with asked secret =
     if not (is_live_in v parent) then refused ShareClosed
     else (if not (may_share (effective_in v parent) asked) then refused NotPermitted
     else (if same_text with.host v.host then refused (OwnHost fields.ShareWith)
-    else (if nat_lt 65536 (length v.shares + 1) then limited limits.Shares
+    else (if nat_lt most_shares (length v.shares + 1) then limited limits.Shares
     else (if is_used v.users v.shares secret then refused Collision
     else replies.Child (length v.shares + 1)))))
 

@@ -1,6 +1,7 @@
 use Rattle.std.specs.Prelude.{ℕ, List, [], ◌∷◌, ◌++◌, length, map, filter, drop, sum_by, count_by, nat_eq, nat_lt, Bool, true, false, not, ◌&&◌, ◌||◌, if◌then◌else◌, Option, Some, None, option_map, unwrap_or}
 use Rattle.std.specs.List.{list_any}
 use Rattle.std.specs.Option.{option_or}
+use Rattle.ocm_limits.specs.Limits.{most_children, most_file_bytes, most_nodes, most_path_bytes, most_stored_bytes}
 use Rattle.ocm_path.specs.Paths.{Segments, same_path, is_root, is_above, parent, last, path_text}
 use Rattle.ocm_types.specs.declared.phases.Which.{Which}
 use Rattle.ocm_types.specs.declared.phases.Which.TheVariants.{FileSize, AllFiles, Nodes, Children, PathLength}
@@ -136,10 +137,10 @@ child_count nodes place = count_by (λ (n : Node). same_place (parent_of n.place
 -- the first limit that the nodes pass, where this node is the one that came last
 abbrev pub passed_by : List Node → Node → Option Which
 passed_by nodes node =
-    if nat_lt 1048576 (size_of node.standing) then Some FileSize
-    else (if nat_lt 268435456 (total_size nodes) then Some AllFiles
-    else (if nat_lt 65536 (length nodes) then Some Nodes
-    else (if nat_lt 4096 (child_count nodes (parent_of node.place)) then Some Children else None)))
+    if nat_lt most_file_bytes (size_of node.standing) then Some FileSize
+    else (if nat_lt most_stored_bytes (total_size nodes) then Some AllFiles
+    else (if nat_lt most_nodes (length nodes) then Some Nodes
+    else (if nat_lt most_children (child_count nodes (parent_of node.place)) then Some Children else None)))
 
 -- the first limit that would be passed once this node stands
 abbrev pub limit_of : List Node → Node → Option Which
@@ -147,7 +148,7 @@ limit_of nodes node = passed_by (with_node nodes node) node
 
 -- whether a node's path is too long
 abbrev pub is_too_long : Node → Bool
-is_too_long n = nat_lt 2048 (length (path_text n.place.path))
+is_too_long n = nat_lt most_path_bytes (length (path_text n.place.path))
 
 -- the limit on the paths that a copy or move makes, where one passes it
 abbrev pub path_limit : List Node → Option Which

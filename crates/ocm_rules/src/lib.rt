@@ -8,8 +8,10 @@ pub mod file_cases;
 pub mod history_cases;
 pub mod laws;
 pub mod limit_cases;
+mod numbers;
 pub mod request_cases;
 mod rows;
 pub mod step_laws;
 
+pub use numbers::row_at;
 pub use rows::{Message, ReceivedRow, SentRow, ShareRow, Subject, Told};

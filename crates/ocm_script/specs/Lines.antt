@@ -1,14 +1,6 @@
 -- Bytes as lines.
 use Rattle.std.specs.Prelude.{ℕ, List, [], ◌∷◌, Bool, nat_eq, if◌then◌else◌}
 
--- the most lines of a script
-abbrev pub most_lines : ℕ
-most_lines = 100000
-
--- the most bytes of a line, without its line feed
-abbrev pub most_line_bytes : ℕ
-most_line_bytes = 4096
-
 -- whether a byte is a line feed
 abbrev pub is_line_feed : ℕ → Bool
 is_line_feed b = nat_eq b 10

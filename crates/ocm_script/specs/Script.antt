@@ -1,7 +1,8 @@
 -- The lines of a script as events.
 use Rattle.std.specs.Prelude.{◌≡◌, ℕ, ◌+◌, List, [], ◌∷◌, ◌++◌, length, nat_eq, nat_lt, Option, Some, None, if◌then◌else◌, Result, Ok, Err}
 use Rattle.std.specs.Option.{option_map_or}
-use Rattle.ocm_script.specs.Lines.{lines_of, most_lines, most_line_bytes}
+use Rattle.ocm_limits.specs.Limits.{most_line_bytes, most_lines}
+use Rattle.ocm_script.specs.Lines.{lines_of}
 use Rattle.ocm_script.specs.Words.{cut}
 use Rattle.ocm_script.specs.Forms.{line_of}
 use Rattle.ocm_script.specs.Events.{node_of}

@@ -3,6 +3,7 @@ use Rattle.std.specs.Prelude.{ℕ, ◌+◌, List, [], ◌∷◌, length, take, d
 use Rattle.std.specs.Str.{is_utf8}
 use Rattle.ocm_base.specs.Decimal.{decimal_of}
 use Rattle.ocm_base.specs.Hex.{hex_text_of}
+use Rattle.ocm_limits.specs.Limits.{most_servers}
 use Rattle.ocm_types.specs.Texts as texts
 use Rattle.ocm_types.specs.Draws.{fresh_of}
 use Rattle.ocm_types.specs.Rights.{perms_of}
@@ -140,15 +141,11 @@ path_word word = do
 abbrev pub known : List (List ℕ) → List ℕ → Option (List ℕ)
 known named word = find (λ host. bytes_eq host word) named
 
--- the most servers of a script
-abbrev pub most_nodes : ℕ
-most_nodes = 16
-
 -- a host in its canonical text that is not named before, as long as there may be more servers
 unfoldable pub new_host : List (List ℕ) → List ℕ → Option (List ℕ)
 new_host named word = do
   host ← host_word word
-  when (nat_lt (length named) most_nodes && is_none (known named host)) host
+  when (nat_lt (length named) most_servers && is_none (known named host)) host
 
 -- the greatest number of a line
 abbrev pub most_number : ℕ

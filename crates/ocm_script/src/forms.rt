@@ -15,11 +15,9 @@ use crate::letter_lines::{deliver_line, notice_line, offer_line, pump_line, raw_
 use crate::server_lines::{clock_line, crash_line, fuse_line, node_line, restart_line, user_line};
 use crate::words::{cut, is_word};
 use ocm_entry::Method;
+use ocm_limits::MOST_LINE_BYTES;
 use ocm_types::Host;
 use std::alloc::Global;
-
-/// The most bytes of a line, without its line feed.
-const MOST_LINE_BYTES: usize = 4096;
 
 /// The event of a line that makes a server, tells it the time or stops it.
 fn server_form(

@@ -1,7 +1,8 @@
 ghost use Rattle.std.specs.Prelude.{◌≡◌, ◌≢◌, ◌<◌, ◌≤◌, ◌↔◌, ◌∷◌, ◌++◌, [], length, Err, IfOk, IsTrue, OnOk};
 ghost use Rattle.std.specs.List.{list_all};
+ghost use Rattle.ocm_limits.specs.Limits.{most_lines};
 ghost use Rattle.ocm_script.specs.Events.{has_short_paths};
-ghost use Rattle.ocm_script.specs.Lines.{lines_of, most_lines};
+ghost use Rattle.ocm_script.specs.Lines.{lines_of};
 ghost use Rattle.ocm_script.specs.Script as script;
 ghost use Rattle.ocm_script.specs.Script.{Reads, script_of};
 
@@ -10,11 +11,9 @@ use crate::faults::{LineFault, ScriptFault};
 use crate::forms::event_of;
 use crate::lines::{count_lines, first_line};
 use ocm_base::{List, NoMemory, and};
+use ocm_limits::MOST_LINES;
 use ocm_types::Host;
 use std::alloc::Global;
-
-/// The most lines of a script.
-const MOST_LINES: usize = 100_000;
 
 /// Reads a script: the event of each of its lines, in their order.
 pub fn read_script(alloc: Global, bytes: &[u8]) -> Result<List<Event>, ScriptFault>

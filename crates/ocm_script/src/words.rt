@@ -7,12 +7,10 @@ ghost use Rattle.ocm_script.specs.Gives.{Gives};
 use crate::faults::LineFault;
 use ocm_base::{Bytes, HexFault, NoMemory, decimal_read, hex_read};
 use ocm_disk::Crash;
+use ocm_limits::MOST_SERVERS;
 use ocm_path::{Path, PathFault};
 use ocm_types::{Address, Fresh, Host, Name, Perms, Secret, TextFault};
 use std::alloc::Global;
-
-/// The most servers of a script.
-const MOST_NODES: usize = 16;
 
 fn space_in(line: &[u8]) -> Option<usize>
     ensures { result ≡ position words.is_space line.now }
@@ -307,7 +305,7 @@ pub fn new_host(alloc: Global, named: &[Host], word: &[u8]) -> Result<Host, Line
     ensures { Gives (λ host. host) result (words.new_host named.now word.now) }
 {
     let host = host_word(alloc, word)?;
-    if named.len() >= MOST_NODES || is_named(named, &host) {
+    if named.len() >= MOST_SERVERS || is_named(named, &host) {
         drop(host);
         return Err(LineFault::Bad);
     }

@@ -12,7 +12,7 @@ mod told_disks;
 mod workers;
 
 pub use notes::Note;
-pub use openings::{OpenFault, Opening};
+pub use openings::{Cause, OpenFault, Opening, StandIns};
 pub use running::run;
 pub use serving::serve;
 pub use told_disks::ToldDisk;

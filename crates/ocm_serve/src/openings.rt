@@ -9,7 +9,7 @@ use std::io::{ErrorKind, Read};
 use std::net::{Net, TcpListener, TcpStream};
 use std::rt::Files;
 use std::sync::{Arc, Wait};
-use std::{io, time};
+use std::{fmt, io, time};
 use thiserror::Error;
 
 /// How many connections are open at a time. Beyond them the one that waits for longest is closed.
@@ -17,6 +17,29 @@ const MAX_OPEN: u64 = 8_192;
 
 /// How long a connection rests between two messages, in milliseconds.
 const REST: u64 = 60_000;
+
+/// Files that give nothing and take nothing, on the descriptors of standard input, output and error, where the program was
+/// started without these. The system gives a file the lowest descriptor that is free, so that else the journal's file could
+/// become the standard error, and take what an administrator is told. Where the three are there, these files are others, and
+/// in nobody's way.
+#[derive(Drop)]
+pub struct StandIns {
+    _files: [Option<File>; 3],
+}
+
+impl StandIns {
+    /// Opens the three, before any other file or socket is opened.
+    pub fn open<R: Files<File = File>>(rt: &R) -> StandIns {
+        StandIns {
+            _files: [nothing(rt), nothing(rt), nothing(rt)],
+        }
+    }
+}
+
+/// The file without content, where the system has it.
+fn nothing<R: Files<File = File>>(rt: &R) -> Option<File> {
+    File::open(rt, "/dev/null").ok()
+}
 
 /// What a server takes from the system before it begins.
 #[derive(Drop)]
@@ -29,21 +52,65 @@ pub struct Opening<'a, R: Wait + time::Clock> {
     pub draw_key: [u8; 32],
 }
 
+/// What the system said of a file or an address, where that is known: the end of a sentence.
+#[derive(Clone, Copy, Debug, PartialEq, Eq)]
+pub enum Cause {
+    /// It is not there, or a folder above it is not.
+    NotFound,
+    /// The process has no right to it.
+    Denied,
+    /// It is a folder.
+    Folder,
+    /// Another process has it.
+    InUse,
+    /// It is no address of this machine.
+    NotHere,
+    /// What says nothing to an administrator.
+    Other,
+}
+
+impl Cause {
+    /// What an error says.
+    fn of(error: &io::Error) -> Cause {
+        match error.kind() {
+            ErrorKind::NotFound => Cause::NotFound,
+            ErrorKind::PermissionDenied => Cause::Denied,
+            ErrorKind::IsADirectory => Cause::Folder,
+            ErrorKind::AddrInUse => Cause::InUse,
+            ErrorKind::AddrNotAvailable => Cause::NotHere,
+            _ => Cause::Other,
+        }
+    }
+}
+
+impl fmt::Display for Cause {
+    fn fmt<W: fmt::Write>(&self, f: &mut fmt::Formatter<W>) -> fmt::Result {
+        f.write_str(match self {
+            Cause::NotFound => ": there is no such file or folder",
+            Cause::Denied => ": there is no right to it",
+            Cause::Folder => ": it is a folder",
+            Cause::InUse => ": it is in use",
+            Cause::NotHere => ": this machine has no such address",
+            Cause::Other => "",
+        })
+    }
+}
+
 /// Why a server cannot begin.
 #[derive(Clone, Copy, Debug, PartialEq, Eq, Error)]
 pub enum OpenFault {
     /// The file of draws cannot be opened, or has fewer than 32 bytes.
-    #[error("the key file cannot be read")]
-    KeyFile,
+    #[error("the key file cannot be read{0}")]
+    KeyFile(Cause),
     /// The disk's file cannot be opened or made.
-    #[error("the disk's file cannot be opened")]
-    Disk,
+    #[error("the disk's file cannot be opened{0}")]
+    Disk(Cause),
     /// Another process has the disk's file.
     #[error("another server has the disk's file")]
     DiskInUse,
     /// The address cannot be listened at.
-    #[error("the address cannot be listened at")]
-    Listen,
+    #[error("the address cannot be listened at{0}")]
+    Listen(Cause),
     /// There was no memory.
     #[error("out of memory")]
     NoMemory,
@@ -65,12 +132,10 @@ impl<
     'a,
     R: Wait + time::Clock + Files<File = File> + Net<Listener = TcpListener, Stream = TcpStream>,
 > Opening<'a, R> {
-    /// Reads the key, opens the disk and then listens, as a plan says.
+    /// Reads the key, listens, and then opens the disk, as a plan says. Where the key or the address is at fault, no file
+    /// is made.
     pub fn new(rt: &'a R, alloc: Global, plan: &Plan) -> Result<Opening<'a, R>, OpenFault> {
-        let Ok(draw_key) = read_key(rt, plan.key_file.as_str()) else {
-            return Err(OpenFault::KeyFile);
-        };
-        let disk = FileDisk::open(rt, plan.disk.as_str()).map_err(disk_fault)?;
+        let draw_key = read_key(rt, plan.key_file.as_str()).map_err(key_fault)?;
         let limits = Limits {
             connections: plan.connections.saturating_mul(u64::from(plan.workers)),
             open: MAX_OPEN,
@@ -79,13 +144,19 @@ impl<
         let entrance = Entrance::new(rt, alloc, plan.listen.as_str(), limits).map_err(
             listen_fault,
         )?;
-        match Arc::new(alloc, entrance) {
-            Ok(entrance) => Ok(Opening {
+        let Ok(entrance) = Arc::new(alloc, entrance) else {
+            return Err(OpenFault::NoMemory);
+        };
+        match FileDisk::open(rt, plan.disk.as_str()) {
+            Ok(disk) => Ok(Opening {
                 entrance,
                 disk,
                 draw_key,
             }),
-            Err(_) => Err(OpenFault::NoMemory),
+            Err(error) => {
+                drop(entrance);
+                Err(disk_fault(error))
+            }
         }
     }
 }
@@ -98,17 +169,24 @@ fn read_key<R: Files<File = File>>(rt: &R, path: &str) -> io::Result<[u8; 32]> {
     Ok(key)
 }
 
+fn key_fault(error: io::Error) -> OpenFault {
+    match error.kind() {
+        ErrorKind::OutOfMemory => OpenFault::NoMemory,
+        _ => OpenFault::KeyFile(Cause::of(&error)),
+    }
+}
+
 fn disk_fault(error: io::Error) -> OpenFault {
     match error.kind() {
         ErrorKind::WouldBlock => OpenFault::DiskInUse,
         ErrorKind::OutOfMemory => OpenFault::NoMemory,
-        _ => OpenFault::Disk,
+        _ => OpenFault::Disk(Cause::of(&error)),
     }
 }
 
 fn listen_fault(error: io::Error) -> OpenFault {
     match error.kind() {
         ErrorKind::OutOfMemory => OpenFault::NoMemory,
-        _ => OpenFault::Listen,
+        _ => OpenFault::Listen(Cause::of(&error)),
     }
 }

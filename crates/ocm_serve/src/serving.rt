@@ -1,5 +1,6 @@
 //! A store, served from its disk to its disk.
 ghost use Rattle.std.specs.Prelude.{◌≡◌, ◌<◌, ◌≤◌, ◌^◌, ℕ, [], List, true, false, length, slice_index_or, IfOk};
+ghost use Rattle.ocm_limits.specs.Limits.{served_disk_bytes};
 ghost use Rattle.ocm_journal.specs.Openings.{StaysAsItOpens, new_area};
 ghost use Rattle.ocm_server.specs.Objects.{Shift, draw_at};
 ghost use Rattle.ocm_server.specs.Visits.{work};
@@ -13,6 +14,7 @@ use ocm_base::{Clock, NoMemory};
 use ocm_dav::Config;
 use ocm_disk::Disk;
 use ocm_entry::Object;
+use ocm_limits::SERVED_DISK_BYTES;
 use ocm_options::Plan;
 use ocm_pump::Dial;
 use ocm_server::{Door, Rounds, Served, Worker, serve_object};
@@ -24,9 +26,6 @@ use std::marker::Brand;
 use std::snapshot::Snapshot;
 use std::sync::Wait;
 use std::thread::Threads;
-
-/// How many bytes a new journal takes at most.
-const JOURNAL: u64 = 1_073_741_824;
 
 /// How many calls the store answers at most: 2^63.
 const CALLS: u64 = 9_223_372_036_854_775_808;
@@ -54,7 +53,7 @@ where
 
     // The calls of each worker stand in one history, in the order in which it made them. The history is legal behind what the disk
     // opened to, and the disk that comes back is that of a store that stands for it.
-    ensures served { (calls own : ℕ) → HasServed result.0 calls own → Ran ⟦<D as Disk>⟧ plan.now (new_area 1073741824) (2 ^ 63) disk result.1 calls own
+    ensures served { (calls own : ℕ) → HasServed result.0 calls own → Ran ⟦<D as Disk>⟧ plan.now (new_area served_disk_bytes) (2 ^ 63) disk result.1 calls own
         (λ config gate first count all. (length all ≡ length workers.old) × ((i : ℕ) (d : _) → i < length workers.old →
         let a = slice_index_or workers.old i d in let b = slice_index_or workers.new i d in
         Shift L.Conn.sides config gate first (draw_at draw_key i)
@@ -67,19 +66,19 @@ where
     ensures fault { (calls own : ℕ) → result.0 ≡ Served.DoorFault calls own → (i : ℕ) × (i < length workers.new) × ((d : _) → (slice_index_or workers.new i d).end ≡ rounds.DoorFault) }
 
     // What is told of the disk is what its bytes say, or the count of its faults, which rose; then no door was asked.
-    ensures said { D.tells → IsSaid (loading plan.now.host (new_area 1073741824) (D.seen disk)) result.0 }
+    ensures said { D.tells → IsSaid (loading plan.now.host (new_area served_disk_bytes) (D.seen disk)) result.0 }
     ensures counted { IsCounted (D.count disk) (D.count result.1) result.0 }
     ensures unfailing { ((n : ℕ) → D.passes disk n) → IsDiskFault result.0 → ⊥ }
     ensures unasked { IsUnserved result.0 → workers.new ≡ workers.old }
 
     // Then the disk reads as before, or, where no journal was made on it before, it opens to nothing as before.
-    ensures kept { D.tells → IsUnserved result.0 → StaysAsItOpens plan.now.host (new_area 1073741824) (D.seen disk) (D.seen result.1) }
+    ensures kept { D.tells → IsUnserved result.0 → StaysAsItOpens plan.now.host (new_area served_disk_bytes) (D.seen disk) (D.seen result.1) }
 {
     let Ok((config, host)) = names_of(plan) else {
         return (Served::NoMemory, disk);
     };
     let before = Snapshot::of(&disk);
-    match Store::load(alloc, disk, host, JOURNAL) {
+    match Store::load(alloc, disk, host, SERVED_DISK_BYTES) {
         Ok(store) => serve_store::<Brand, D, L, N, K, R>(
             rt, alloc, &config, workers, store, draw_key, &before,
         ),

@@ -142,7 +142,7 @@ impl<'a, R: Wait + time::Clock> Entrance<'a, R> {
         self.shut.load(Ordering::SeqCst) > 0 && self.open.load(Ordering::SeqCst) == 0
     }
 
-    /// The next connection whose message looks whole, or None at the end.
+    /// The next connection whose message is whole or has a fault in what came of it, or None at the end.
     pub fn give(&self, piece: &mut [u8]) -> Option<Line<'a, R>> {
         for _ in self.rt.forever() {
             if self.is_over() {
@@ -165,7 +165,7 @@ impl<'a, R: Wait + time::Clock> Entrance<'a, R> {
         unreachable!()
     }
 
-    /// Does what can be done at once, and gives the connection back where a message looks whole.
+    /// Does what can be done at once, and gives the connection back where its message is to be served.
     fn advance(&self, mut line: Line<'a, R>, piece: &mut [u8]) -> Option<Line<'a, R>> {
         match line.advance(piece) {
             Step::Serve => return Some(line),
@@ -221,7 +221,7 @@ impl<'a, R: Wait + time::Clock> Entrance<'a, R> {
                 Err(e) if e.kind() == ErrorKind::WouldBlock => break,
                 Err(e) if e.kind() == ErrorKind::ConnectionAborted => {}
                 // No descriptor is free, say. Where none can be freed, the next sweep asks again.
-                Err(_) if self.evict() => {}
+                Err(_) if self.evict(false) => {}
                 Err(_) => return,
             }
         }
@@ -243,7 +243,7 @@ impl<'a, R: Wait + time::Clock> Entrance<'a, R> {
     /// Takes a new connection into the set.
     fn adopt(&self, stream: TcpStream) {
         let open = self.open.fetch_add(1, Ordering::SeqCst);
-        let has_room = open < self.limits.open || self.evict();
+        let has_room = open < self.limits.open || self.evict(false);
         match Arc::try_clone(&self.waits) {
             Ok(waits) if has_room => self.park(Line::new(self.rt, self.alloc, waits, stream)),
             _ => {
@@ -268,6 +268,17 @@ impl<'a, R: Wait + time::Clock> Entrance<'a, R> {
         drop(before);
         if !self.waits.ask(fd, is_new, wanted) {
             self.close_at(place);
+        }
+        self.make_room();
+    }
+
+    /// Where all connections together hold too much, drops of those that hold much the ones that wait for longest. So no
+    /// worker has to wait for the rest of a message to make room.
+    fn make_room(&self) {
+        for _ in 0..PLACES {
+            if self.waits.has_room() || !self.evict(true) {
+                return;
+            }
         }
     }
 
@@ -310,13 +321,13 @@ impl<'a, R: Wait + time::Clock> Entrance<'a, R> {
         }
     }
 
-    /// Drops the connection that waits for longest, and answers whether there was one.
-    fn evict(&self) -> bool {
+    /// Drops the connection that waits for longest, maybe only of those that hold much, and answers whether there was one.
+    fn evict(&self, of_holding: bool) -> bool {
         let mut oldest = u64::MAX;
         let mut place = WAKING;
         for (i, slot) in self.table.iter().enumerate() {
             if let Some(line) = &*slot.lock(self.rt) {
-                if line.since() < oldest {
+                if line.since() < oldest && (line.holds_much() || !of_holding) {
                     oldest = line.since();
                     place = i;
                 }

@@ -1,18 +1,17 @@
 //! One request to another server, and what it sends back.
 ghost use Rattle.std.specs.Prelude.{◌≤◌, IfOk, length};
+ghost use Rattle.ocm_limits.specs.Limits.{most_exchange_bytes};
 
 use crate::pauses::Pauses;
 use crate::streams::{read_now, write_now};
 use crate::waits::millis;
 use ocm_base::Bytes;
+use ocm_limits::MOST_EXCHANGE_BYTES;
 use std::alloc::{AllocError, Global};
 use std::net::{Net, TcpListener, TcpStream, ToSocketAddrs};
 use std::sync::Wait;
 use std::time::Duration;
 use std::{io, time};
-
-/// How many bytes of a reply are taken at most.
-const MOST: usize = 33_619_968;
 
 /// The port of a host that names none.
 const PORT: u16 = 80;
@@ -33,7 +32,7 @@ const PIECE: usize = 65_536;
 /// Why an exchange gave no reply.
 #[derive(Clone, Copy, Debug, PartialEq, Eq)]
 pub enum ExchangeFault {
-    /// The peer cannot be reached, is too slow, failed of late, or sends too much.
+    /// The peer cannot be reached, is too slow, failed or was of no use of late, or sends too much.
     Failed,
     /// There was no memory.
     NoMemory,
@@ -45,24 +44,40 @@ impl From<AllocError> for ExchangeFault {
     }
 }
 
+/// Tells replies of use from others.
+pub trait Judge {
+    /// Whether a reply shows that it is of use to ask its host again soon.
+    fn is_useful(&self, reply: &Bytes) -> bool;
+}
+
 /// Sends a request to a host on a connection of its own, and gives what comes back until the peer closes, at most
-/// 33,619,968 bytes. A host that names no port has port 80. One that failed of late, or that another tries for long, is not tried.
-pub fn exchange<R: Wait + time::Clock + Net<Listener = TcpListener, Stream = TcpStream>>(
+/// 33,619,968 bytes. A host that names no port has port 80. One that failed of late, or whose last reply was of no use by
+/// its judge, or that another tries for long, is not tried.
+pub fn exchange<R: Wait + time::Clock + Net<Listener = TcpListener, Stream = TcpStream>, J: Judge>(
     rt: &R,
     alloc: Global,
     pauses: &Pauses,
     host: &str,
     request: &[u8],
+    judge: &J,
 ) -> Result<Bytes, ExchangeFault>
-    ensures { IfOk result (λ reply. length reply ≤ 33619968) }
+    ensures { IfOk result (λ reply. length reply ≤ most_exchange_bytes) }
 {
     if !pauses.let_try(rt, alloc, host) {
         return Err(ExchangeFault::Failed);
     }
     let start = millis(rt);
     let reply = exchanged(rt, alloc, start, host, request);
-    pauses.end(rt, alloc, host, start, reply.is_ok());
+    pauses.end(rt, alloc, host, start, is_useful(judge, &reply));
     reply
+}
+
+/// Whether there is a reply, and it is of use.
+fn is_useful<J: Judge>(judge: &J, reply: &Result<Bytes, ExchangeFault>) -> bool {
+    match reply {
+        Ok(reply) => judge.is_useful(reply),
+        Err(_) => false,
+    }
 }
 
 /// Makes an exchange that began then.
@@ -73,7 +88,7 @@ fn exchanged<R: time::Clock + Net<Listener = TcpListener, Stream = TcpStream>>(
     host: &str,
     request: &[u8],
 ) -> Result<Bytes, ExchangeFault>
-    ensures { IfOk result (λ reply. length reply ≤ 33619968) }
+    ensures { IfOk result (λ reply. length reply ≤ most_exchange_bytes) }
 {
     let Some(stream) = connected(rt, start, host) else {
         return Err(ExchangeFault::Failed);
@@ -124,9 +139,9 @@ fn with_limits(stream: &TcpStream) -> io::Result<()> {
 
 /// A reply that is not too long.
 fn bounded(reply: Vec<u8>) -> Result<Bytes, ExchangeFault>
-    ensures { IfOk result (λ whole. length whole ≤ 33619968) }
+    ensures { IfOk result (λ whole. length whole ≤ most_exchange_bytes) }
 {
-    if reply.len() <= MOST {
+    if reply.len() <= MOST_EXCHANGE_BYTES {
         Ok(Bytes::from_vec(reply))
     } else {
         Err(ExchangeFault::Failed)
@@ -172,12 +187,11 @@ impl<'a, R: time::Clock> Course<'a, R> {
     fn receive(&mut self, alloc: Global) -> Result<Vec<u8>, ExchangeFault> {
         let mut piece = Vec::from_elem(alloc, 0u8, PIECE)?;
         let mut reply = Vec::new(alloc);
-        for _ in 0..=MOST {
+        for _ in 0..=MOST_EXCHANGE_BYTES {
             match read_now(&self.stream, &mut piece) {
                 Ok(Some(0)) => return Ok(reply),
-                Ok(Some(n)) if reply.len() <= MOST && self.goes_on(n) => reply.extend_from_slice(
-                    &piece[..n],
-                )?,
+                Ok(Some(n)) if reply.len() <= MOST_EXCHANGE_BYTES && self.goes_on(n) =>
+                    reply.extend_from_slice(&piece[..n])?,
                 _ => return Err(ExchangeFault::Failed),
             }
         }

@@ -5,8 +5,10 @@
 //! returns.
 #![tactic(auto)]
 
+mod chunks;
 mod entrances;
 mod exchanges;
+mod lengths;
 mod lines;
 mod pauses;
 mod streams;
@@ -14,6 +16,6 @@ mod waits;
 mod wholes;
 
 pub use entrances::{Entrance, Limits};
-pub use exchanges::{ExchangeFault, exchange};
+pub use exchanges::{ExchangeFault, Judge, exchange};
 pub use lines::Line;
 pub use pauses::Pauses;

@@ -27,8 +27,13 @@ const TICK: u64 = 500;
 /// How many messages follow one another at most before others have a turn.
 const MOST_TURNS: u32 = 64;
 
-/// How many bytes that came ahead are held in any case.
-const AHEAD_IN_ANY_CASE: usize = 16_384;
+/// How many bytes one connection holds in any case, also where all together hold too many. As many connections as are
+/// open at most can't hold too many with no more than these.
+const HELD_IN_ANY_CASE: u64 = 8_192;
+
+/// How many bytes of a message that isn't whole are gathered at most. The longest has less, where its chunk lines have
+/// only a size without zeros in front.
+const MOST_AHEAD: usize = 8_388_608;
 
 /// How many bytes of one connection are kept unsent at most.
 const MOST_UNSENT: usize = 16_777_216;
@@ -69,7 +74,7 @@ pub struct Line<'a, R: time::Clock> {
     ahead: Vec<u8>,
     /// How many bytes of those ahead were read.
     used: usize,
-    /// Where the message at the front of those ahead ends, 0 where it doesn't look whole.
+    /// Where the message at the front of those ahead ends, or the bytes that show its fault; 0 where more have to come.
     whole: usize,
     /// How far those ahead were looked at.
     look: Look,
@@ -145,6 +150,11 @@ impl<'a, R: time::Clock> Line<'a, R> {
     /// Since when it waits, in milliseconds.
     pub fn since(&self) -> u64 {
         self.since
+    }
+
+    /// Whether it holds so much that it may be dropped where all connections together hold too much.
+    pub fn holds_much(&self) -> bool {
+        self.held > HELD_IN_ANY_CASE
     }
 
     /// The time from which on it is dropped where it waits in the set, by how long a connection may rest between two
@@ -248,7 +258,7 @@ impl<'a, R: time::Clock> Line<'a, R> {
         self.fill(piece);
         if self.has_message() || (self.has_ended() && self.has_part()) {
             Step::Serve
-        } else if self.has_ended() {
+        } else if self.has_ended() || self.ahead.len() > MOST_AHEAD {
             Step::Close
         } else {
             Step::Wait
@@ -274,18 +284,13 @@ impl<'a, R: time::Clock> Line<'a, R> {
         self.ahead.extend_from_slice(piece).is_ok()
     }
 
-    /// Whether a message is ahead that is to be served now: it looks whole, or all connections together hold too much.
+    /// Whether a message is ahead that is to be served now: it is whole, or has a fault in what came of it.
     fn has_message(&mut self) -> bool {
-        let is_pressed = self.ahead.len() > AHEAD_IN_ANY_CASE && !self.waits.has_room();
-        self.whole = match self.look.message_end(&self.ahead) {
-            Some(end) => end,
-            None if is_pressed => self.ahead.len(),
-            None => 0,
-        };
+        self.whole = self.look.message_end(&self.ahead).unwrap_or(0);
         self.whole > 0
     }
 
-    /// Lets a message that is cut be served as far as it came. Answers whether something came of it.
+    /// Lets a message that is cut be served as far as it came: no more can come. Answers whether something came of it.
     fn has_part(&mut self) -> bool {
         self.whole = self.ahead.len();
         self.whole > 0

@@ -1,12 +1,15 @@
-//! Hosts that are tried now, or failed of late.
+//! Hosts that are tried now, or failed of late, or were of no use.
 use crate::waits::millis;
 use std::alloc::Global;
 use std::sync::{Mutex, Wait};
 use std::time::Duration;
 use std::{thread, time};
 
-/// How many times as long as its failure took a host is left alone.
+/// How many times as long as its last exchange took a host is left alone.
 const SHARE: u64 = 4;
+
+/// How long a host is left alone at least whose last exchange failed or was of no use, in milliseconds.
+const LEAST: u64 = 1_000;
 
 /// How many hosts are noted at most.
 const MOST_NOTED: usize = 1_024;
@@ -20,14 +23,16 @@ const PATIENCE: u64 = 500;
 /// How long it is between two looks at another's exchange, in milliseconds.
 const LOOK: u64 = 2;
 
-/// The hosts that are tried now, each by one at a time, and those whose last exchange failed, each of which is left alone
-/// for four times as long as its failure took: else a silent peer would hold every worker.
+/// The hosts that are tried now, each by one at a time, and those whose last exchange failed or gave a reply of no use,
+/// each of which is left alone for four times as long as that took, and at least for a second: else a silent peer would
+/// hold every worker, one that never settles a message would be asked behind each connection for each message that is
+/// due, and two servers with such messages for each other would go on asking each other.
 #[derive(Drop)]
 pub struct Pauses {
     noted: Mutex<Vec<Noted>>,
 }
 
-/// A host that is tried now or failed last.
+/// A host that is tried now, or was tried last in vain.
 #[derive(Drop)]
 struct Noted {
     host: String,
@@ -91,14 +96,14 @@ impl Pauses {
         Turn::Try
     }
 
-    /// Notes how an exchange with a host ended that began then.
+    /// Notes whether an exchange with a host that began then was of use.
     pub fn end<R: Wait + time::Clock>(
         &self,
         rt: &R,
         alloc: Global,
         host: &str,
         start: u64,
-        is_ok: bool,
+        was_useful: bool,
     ) {
         let now = millis(rt);
         let mut guard = self.noted.lock(rt);
@@ -106,8 +111,8 @@ impl Pauses {
         noted.retain(|it| {
             it.host.as_str() != host && (it.is_tried || now < it.until.saturating_add(NOTED))
         });
-        if !is_ok {
-            let pause = now.saturating_sub(start).saturating_mul(SHARE);
+        if !was_useful {
+            let pause = now.saturating_sub(start).saturating_mul(SHARE).max(LEAST);
             note(noted, alloc, host, false, now.saturating_add(pause));
         }
     }

@@ -17,7 +17,8 @@ pub const WAKING: usize = usize::MAX;
 /// How long one wait lasts at most, in milliseconds.
 const WAIT: i32 = 500;
 
-/// How many bytes all connections hold at most, of messages that are not whole and of pages that are not sent.
+/// How many bytes all connections hold at most, of messages that are not whole and of pages that are not sent. Beyond
+/// them those that wait for longest are dropped.
 const MOST_HELD: u64 = 134_217_728;
 
 /// For what a connection waits.

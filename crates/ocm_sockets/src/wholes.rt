@@ -1,26 +1,32 @@
-//! Where a message ends, as it looks. A wrong answer costs time and no meaning: of a message that was handed over too
-//! early, the rest is read by waiting, and one that is held for too long is dropped.
+//! Where a message ends, as it looks, or where it has a fault. The reader of messages answers at once to what is handed
+//! over: what is found here is what that finds by its contract. A wrong answer would cost time and no meaning: of a
+//! message that was handed over too early the rest is read by waiting, and one that is held for too long is dropped.
 ghost use Rattle.std.specs.Prelude.{◌≤◌, IfSome, length};
 
-/// How many bytes of one message are gathered at most.
-const MOST_GATHERED: usize = 1_081_344;
+use crate::chunks::{ChunkLine, MOST_LINE, chunk_line};
+use crate::lengths::{Lengths, MOST_BODY, value_of};
+use ocm_limits::{MOST_HEAD_BYTES, MOST_HEAD_LINES};
 
-/// How many bytes a head has at most.
-const MOST_IN_HEAD: usize = 16_384;
+/// How many bytes trailers have at most (RFC 9112 section 7.1.2).
+const MOST_TRAILERS: usize = 8_192;
 
 /// What comes next in a message.
 #[derive(Clone, Copy, Debug, PartialEq, Eq)]
 enum Part {
-    /// The first line of a head, which may be empty.
+    /// The first line of a head, or CR and LF before it, which are passed over (RFC 9112 section 2.2).
     First,
     /// Another line of a head.
     Field,
     /// The line ahead of a chunk (RFC 9112 section 7.1).
     Chunk,
+    /// The CR LF behind a chunk's data.
+    Break,
     /// A line behind the last chunk.
     Trailer,
     /// Nothing: it ends there.
     End,
+    /// Nothing: what came before is refused, whatever follows.
+    Fault,
 }
 
 /// How far a message was looked at, of which more bytes may come.
@@ -31,10 +37,14 @@ pub struct Look {
     place: usize,
     /// How many bytes at the front were looked at before: the line at the place doesn't end in them.
     seen: usize,
-    /// Whether a field says that the body comes in chunks.
-    is_chunked: bool,
-    /// How many bytes the body has by the first field that says so.
-    length: Option<usize>,
+    /// How many lines the head has so far, with those that are empty before it.
+    lines: usize,
+    /// What the head's fields say of the body.
+    lengths: Lengths,
+    /// How many bytes of the body the chunks so far have.
+    body: usize,
+    /// Where the trailers begin.
+    trailers: usize,
 }
 
 impl Look {
@@ -44,45 +54,86 @@ impl Look {
             part: Part::First,
             place: 0,
             seen: 0,
-            is_chunked: false,
-            length: None,
+            lines: 0,
+            lengths: Lengths::new(),
+            body: 0,
+            trailers: 0,
         }
     }
 
-    /// How many bytes the first message has, where it looks whole, or like no message at all. Those that were looked at
-    /// before are the front of these.
+    /// How many bytes the first message has, where it is whole, or all of these, where it has a fault so far. Those that
+    /// were looked at before are the front of these. Each byte is looked at once, those of a chunk line that isn't whole
+    /// aside.
     pub fn message_end(&mut self, bytes: &[u8]) -> Option<usize>
         ensures { IfSome result (λ n. n ≤ length bytes.now) }
     {
-        if bytes.len() >= MOST_GATHERED {
-            return Some(bytes.len());
-        }
+        self.pass_blanks(bytes);
         for _ in 0..bytes.len() {
-            let Some(line) = self.next_line(bytes) else {
+            if !self.step(bytes) {
                 break;
-            };
-            self.pass(line);
+            }
         }
         if self.part == Part::End && self.place <= bytes.len() {
             return Some(self.place);
         }
-        if self.is_in_head() && is_no_head(bytes, self.seen) {
+        if self.part == Part::Fault || self.is_too_long(bytes.len()) {
             return Some(bytes.len());
         }
         self.seen = bytes.len();
         None
     }
 
-    /// Whether the head goes on.
-    fn is_in_head(&self) -> bool {
-        matches!(self.part, Part::First | Part::Field)
+    /// Whether so many bytes without the end of the head, or of the trailers, are too many.
+    fn is_too_long(&self, count: usize) -> bool {
+        match self.part {
+            Part::First | Part::Field => count > MOST_HEAD_BYTES,
+            Part::Trailer => count > self.trailers.saturating_add(MOST_TRAILERS),
+            Part::Chunk | Part::Break | Part::End | Part::Fault => false,
+        }
+    }
+
+    /// Passes over the CR and LF that come before a head, and counts the lines that they end.
+    fn pass_blanks(&mut self, bytes: &[u8]) {
+        if self.part == Part::First {
+            for byte in bytes.get(self.place..).unwrap_or_default() {
+                match *byte {
+                    b'\r' => self.skip(1),
+                    b'\n' => {
+                        self.skip(1);
+                        self.count_line();
+                    }
+                    _ => break,
+                }
+            }
+        }
+    }
+
+    /// Counts a line of the head, or before it: one too many is a fault.
+    fn count_line(&mut self) {
+        self.lines = self.lines.saturating_add(1);
+        if self.lines > MOST_HEAD_LINES {
+            self.part = Part::Fault;
+        }
+    }
+
+    /// Passes over the next part. Answers whether it was all here, so that there may be another.
+    fn step(&mut self, bytes: &[u8]) -> bool {
+        match self.part {
+            Part::First | Part::Field | Part::Trailer => match self.next_line(bytes) {
+                Some(line) => {
+                    self.pass(line);
+                    true
+                }
+                None => false,
+            },
+            Part::Chunk => self.pass_chunk(bytes.get(self.place..).unwrap_or_default()),
+            Part::Break => self.pass_break(bytes.get(self.place..).unwrap_or_default()),
+            Part::End | Part::Fault => false,
+        }
     }
 
     /// The line that comes next, with its end, where that is here.
     fn next_line<'b>(&self, bytes: &'b [u8]) -> Option<&'b [u8]> {
-        if self.part == Part::End {
-            return None;
-        }
         let start = self.place.max(self.seen);
         let before = bytes.get(start..)?.iter().position(|b| *b == b'\n')?;
         bytes.get(self.place..=start.saturating_add(before))
@@ -91,12 +142,15 @@ impl Look {
     /// Passes over this line, and over what it says is behind it.
     fn pass(&mut self, line: &[u8]) {
         self.skip(line.len());
-        match self.part {
-            Part::First => self.part = Part::Field,
-            Part::Field => self.pass_field(line),
-            Part::Chunk => self.pass_chunk(line),
-            Part::Trailer if line.len() <= 2 => self.part = Part::End,
-            Part::Trailer | Part::End => {}
+        if self.part == Part::Trailer {
+            if is_empty(line) {
+                self.part = Part::End;
+            }
+        } else if self.part == Part::First {
+            self.part = Part::Field;
+            self.count_line();
+        } else {
+            self.pass_field(line);
         }
     }
 
@@ -107,80 +161,69 @@ impl Look {
 
     /// Takes from a line of a head what it says of the body. The first empty one ends the head.
     fn pass_field(&mut self, line: &[u8]) {
-        if matches!(line, b"\r\n" | b"\n") {
+        if is_empty(line) {
             self.end_head();
-        } else if value_of(line, b"transfer-encoding:").is_some() {
-            self.is_chunked = true;
+        } else if let Some(value) = value_of(line, b"transfer-encoding:") {
+            self.lengths.pass_coding(value);
         } else if let Some(value) = value_of(line, b"content-length:") {
-            self.length = self.length.or(Some(decimal_at(value)));
+            self.lengths.pass_length(value);
         }
+        self.count_line();
     }
 
     /// Ends the head, and passes over a body that doesn't come in chunks.
     fn end_head(&mut self) {
-        if self.is_chunked {
+        if self.place > MOST_HEAD_BYTES || self.lengths.has_fault() {
+            self.part = Part::Fault;
+        } else if self.lengths.is_chunked() {
             self.part = Part::Chunk;
         } else {
             self.part = Part::End;
-            self.skip(self.length.unwrap_or(0));
+            let length = self.lengths.length();
+            self.skip(length);
         }
     }
 
-    /// Passes over the chunk behind this line.
-    fn pass_chunk(&mut self, line: &[u8]) {
-        let size = hexadecimal_at(line);
-        if size == 0 {
+    /// Passes over the chunk whose line these bytes begin with, where that is here. Answers whether it is.
+    fn pass_chunk(&mut self, bytes: &[u8]) -> bool {
+        match chunk_line(bytes.get(..MOST_LINE).unwrap_or(bytes)) {
+            ChunkLine::Whole(len, size) => self.begin_chunk(len, size),
+            ChunkLine::Open if bytes.len() <= MOST_LINE => return false,
+            ChunkLine::Open | ChunkLine::Refused => self.part = Part::Fault,
+        }
+        true
+    }
+
+    /// Passes over a chunk line of so many bytes, and over the data that it tells. The last chunk has none.
+    fn begin_chunk(&mut self, len: usize, size: usize) {
+        self.skip(len);
+        self.body = self.body.saturating_add(size);
+        if self.body > MOST_BODY {
+            self.part = Part::Fault;
+        } else if size == 0 {
             self.part = Part::Trailer;
+            self.trailers = self.place;
         } else {
-            // the line end behind a chunk has two bytes
-            self.skip(size.saturating_add(2));
+            self.part = Part::Break;
+            self.skip(size);
         }
     }
-}
 
-/// Whether the front of a head is none, where these first bytes may stand in one.
-fn is_no_head(bytes: &[u8], seen: usize) -> bool {
-    let fresh = bytes.get(seen..).unwrap_or_default();
-    bytes.len() > MOST_IN_HEAD || fresh.iter().any(|b| is_foreign(*b))
-}
-
-/// A byte that stands in no head.
-fn is_foreign(byte: u8) -> bool {
-    byte == 127 || (byte < 32 && byte != b'\r' && byte != b'\n' && byte != b'\t')
-}
-
-/// What follows a name at the front of a line, its letters in either case.
-fn value_of<'a>(line: &'a [u8], name: &[u8]) -> Option<&'a [u8]> {
-    let (front, value) = line.split_at_checked(name.len())?;
-    front.eq_ignore_ascii_case(name).then_some(value)
-}
-
-/// The number at the front, behind blanks.
-fn decimal_at(bytes: &[u8]) -> usize {
-    let mut number = 0usize;
-    for b in bytes {
-        match *b {
-            b' ' | b'\t' => {}
-            d @ b'0'..=b'9' => number = number
-                .saturating_mul(10)
-                .saturating_add(usize::from(d - b'0')),
-            _ => break,
+    /// Passes over the CR LF that these bytes begin with, where it is here. Answers whether it is.
+    fn pass_break(&mut self, bytes: &[u8]) -> bool {
+        match bytes {
+            [] | [b'\r'] => return false,
+            [b'\r', b'\n', ..] => {
+                self.skip(2);
+                self.part = Part::Chunk;
+            }
+            _ => self.part = Part::Fault,
         }
+        true
     }
-    number
 }
 
-/// The size at the front of a chunk. Where there is none it is 0, and the reader of messages refuses the chunk.
-fn hexadecimal_at(bytes: &[u8]) -> usize {
-    let mut number = 0usize;
-    for b in bytes {
-        let digit = match *b {
-            d @ b'0'..=b'9' => d - b'0',
-            d @ b'a'..=b'f' => d - b'a' + 10,
-            d @ b'A'..=b'F' => d - b'A' + 10,
-            _ => break,
-        };
-        number = number.saturating_mul(16).saturating_add(usize::from(digit));
-    }
-    number
+/// Whether a line is empty.
+fn is_empty(line: &[u8]) -> bool {
+    matches!(line, b"\r\n" | b"\n")
 }

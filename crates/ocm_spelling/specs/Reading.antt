@@ -2,6 +2,7 @@
 use Rattle.std.specs.Prelude.{◌≡◌, ℕ, ◌/◌, ◌%◌, ◌==◌, Bool, true, false, nat_lt, if◌then◌else◌, List, [], ◌∷◌, length, take, drop, Option, Some, None, Result, Ok, Err}
 use Rattle.std.specs.Int.{Width, w16, w32, w64, byte_len, from_be_bytes}
 use Rattle.std.specs.Str.{is_utf8}
+use Rattle.ocm_limits.specs.Limits.{most_file_bytes}
 use Rattle.ocm_types.specs.declared.addresses.Address.{Address}
 use Rattle.ocm_types.specs.declared.rights.Rights.{Rights}
 use Rattle.ocm_types.specs.declared.letters.Offer.{Offer}
@@ -236,7 +237,7 @@ dav_of method most bytes = reads3 (λ secret path body. asks.Dav secret method p
 
 -- PUT with a file of at most 1,048,576 bytes, DELETE and MKCOL without a body
 unfoldable pub dav_at : Reading Ask
-dav_at bytes = tagged ((1, dav_of methods.Put 1048576) ∷ (2, dav_of methods.Delete 0) ∷ (3, dav_of methods.Mkcol 0) ∷ []) bytes
+dav_at bytes = tagged ((1, dav_of methods.Put most_file_bytes) ∷ (2, dav_of methods.Delete 0) ∷ (3, dav_of methods.Mkcol 0) ∷ []) bytes
 
 unfoldable pub add_user_at : Reading Ask
 add_user_at bytes = reads2 asks.AddUser name_at fresh_at bytes

@@ -2,6 +2,7 @@
 use Rattle.std.specs.Prelude.{◌≡◌, ℕ, ◌+◌, ◌<◌, ◌≤◌, ◌^◌, Bool, true, false, ◌&&◌, nat_le, if◌then◌else◌, List, [], ◌∷◌, ◌++◌, length, slice_index, Option, Some, None, IsTrue, IfSome}
 use Rattle.std.specs.Int.{w16, w32, w64, to_be_bytes}
 use Rattle.std.specs.Str.{is_utf8}
+use Rattle.ocm_limits.specs.Limits.{most_file_bytes}
 use Rattle.ocm_types.specs.declared.addresses.Address.{Address}
 use Rattle.ocm_types.specs.declared.rights.Rights.{Rights}
 use Rattle.ocm_types.specs.declared.letters.Offer.{Offer}
@@ -114,7 +115,7 @@ spelling (asks.Carry secret from to moving overwrite) =
 
 -- a file that is put has at most 1,048,576 bytes, what deletes or makes a collection has no body, and what reads is not kept
 abbrev pub has_kept_body : Method → List ℕ → Bool
-has_kept_body methods.Put body = nat_le (length body) 1048576
+has_kept_body methods.Put body = nat_le (length body) most_file_bytes
 has_kept_body methods.Delete body = nat_le (length body) 0
 has_kept_body methods.Mkcol body = nat_le (length body) 0
 has_kept_body _ body = false
@@ -178,7 +179,7 @@ IsBody most body = (length body ≤ most) × (length body < 2 ^ 32)
 
 -- the number of bytes that a body may have
 abbrev pub most_of : Method → ℕ
-most_of methods.Put = 1048576
+most_of methods.Put = most_file_bytes
 most_of _ = 0
 
 -- a method that a journal keeps

@@ -14,6 +14,7 @@ use crate::fields::{
 };
 use ocm_base::and;
 use ocm_entry::{Ask, Cmd, Method};
+use ocm_limits::MOST_FILE_BYTES;
 use ocm_types::{Fresh, Notice, Offer};
 use std::alloc::Global;
 
@@ -276,7 +277,7 @@ fn dav_at(alloc: Global, bytes: &[u8]) -> Result<(Ask, &[u8]), EntryFault>
 {
     let (method, rest) = byte_at(bytes)?;
     match method {
-        1 => dav_of(alloc, Method::Put, 1_048_576, rest),
+        1 => dav_of(alloc, Method::Put, MOST_FILE_BYTES as u32, rest),
         2 => dav_of(alloc, Method::Delete, 0, rest),
         3 => dav_of(alloc, Method::Mkcol, 0, rest),
         _ => Err(EntryFault::Tag),

@@ -13,6 +13,7 @@ use crate::appending::{
 };
 use ocm_base::{Bytes, NoMemory};
 use ocm_entry::{Ask, Cmd, Method};
+use ocm_limits::MOST_FILE_BYTES;
 use ocm_path::Path;
 use ocm_types::{Address, Fresh, Notice, Offer, Perms, ProviderId, Secret};
 use std::alloc::Global;
@@ -216,7 +217,7 @@ fn has_kept_body(method: Method, body: &Bytes) -> bool
     ensures { result ≡ spells.has_kept_body method body.now }
 {
     match method {
-        Method::Put => body.len() <= 1_048_576,
+        Method::Put => body.len() <= MOST_FILE_BYTES as usize,
         Method::Delete | Method::Mkcol => body.len() <= 0,
         Method::Get | Method::Head | Method::List0 | Method::List1 => false,
     }

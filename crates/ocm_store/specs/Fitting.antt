@@ -3,6 +3,7 @@ use Rattle.std.proofs.Common.{inl, inr, ℕ, ◌+◌, List, [], ◌∷◌, ◌++
 use Rattle.std.specs.Prelude.{⊤, if◌then◌else◌, ◌&&◌, ◌||◌, not, nat_lt, is_some}
 use Rattle.std.specs.Option.{option_map_or}
 use Rattle.ocm_base.specs.Hex.{hex}
+use Rattle.ocm_limits.specs.Limits.{most_pending, most_records, most_requests, most_shares, most_users}
 use Rattle.ocm_path.specs.Paths.{Segments, is_root}
 use Rattle.ocm_types.specs.declared.addresses.Address.{Address}
 use Rattle.ocm_types.specs.declared.letters.Notice.{Notice}
@@ -157,14 +158,14 @@ carry-answer v (Some grant) from to moving overwrite =
 add_user-answer : (taken : Bool) (count : ℕ) (used : Bool) (key : List ℕ) → IsPlain (add_user_reply taken count used key)
 add_user-answer taken count used key =
     by_test taken (refused_is whys.UserExists)
-    (by_test (nat_lt 4096 (count + 1)) (refused_is (whys.Limit limits.Users))
+    (by_test (nat_lt most_users (count + 1)) (refused_is (whys.Limit limits.Users))
     (by_test used (refused_is whys.Collision) (key_is key)))
 
 share-answer : (own_host : Bool) (here : Option Standing) (count : ℕ) (used : Bool) → IsPlain (share_reply own_host here count used)
 share-answer own_host here count used =
     by_test own_host (refused_is (whys.OwnHost fields.ShareWith))
     (by_test (not (is_some here)) (refused_is whys.NotFound)
-    (by_test (nat_lt 65536 (count + 1)) (refused_is (whys.Limit limits.Shares))
+    (by_test (nat_lt most_shares (count + 1)) (refused_is (whys.Limit limits.Shares))
     (by_test used (refused_is whys.Collision) (number_is (count + 1)))))
 
 end-answer : (o : Option Share) (live : Bool) → IsPlain (end_reply o live)
@@ -187,7 +188,7 @@ reshare-answer None phase rights asked count = refused_is whys.NotFound
 reshare-answer (Some offer) phase rights asked count =
     by_test (not (is_confirmed phase)) (refused_is whys.WrongPhase)
     (by_test (not (may_share rights asked)) (refused_is whys.NotPermitted)
-    (by_test (nat_lt 65536 (count + 1)) (refused_is (whys.Limit limits.Requests)) (number_is (count + 1))))
+    (by_test (nat_lt most_requests (count + 1)) (refused_is (whys.Limit limits.Requests)) (number_is (count + 1))))
 
 local-answer : (v : View) (o : Option ℕ) (cmd : Cmd) → IsPlain (local_reply v o cmd)
 local-answer v None cmd = refused_is whys.Unauthorized
@@ -209,8 +210,8 @@ local-answer v (Some user) commands.List = record { is = tt }
 new_offer-answer : (v : View) (offer : Offer) → IsPlain (new_offer_reply v offer)
 new_offer-answer v offer =
     by_test (is_known v.offers offer) (recipient_is offer.with.user)
-    (by_test (nat_lt 256 (pending_count v offer.with.user + 1)) (refused_is (whys.Limit limits.Pending))
-    (by_test (nat_lt 65536 (length v.offers + 1)) (refused_is (whys.Limit limits.Records)) (recipient_is offer.with.user)))
+    (by_test (nat_lt most_pending (pending_count v offer.with.user + 1)) (refused_is (whys.Limit limits.Pending))
+    (by_test (nat_lt most_records (length v.offers + 1)) (refused_is (whys.Limit limits.Records)) (recipient_is offer.with.user)))
 
 offer-answer : (v : View) (offer : Offer) → IsPlain (offer_reply v offer)
 offer-answer v offer =
@@ -237,7 +238,7 @@ first-answer v parent with asked secret =
     by_test (not (is_live_in v parent)) (refused_is whys.ShareClosed)
     (by_test (not (may_share (effective_in v parent) asked)) (refused_is whys.NotPermitted)
     (by_test (same_text with.host v.host) (refused_is (whys.OwnHost fields.ShareWith))
-    (by_test (nat_lt 65536 (length v.shares + 1)) (refused_is (whys.Limit limits.Shares))
+    (by_test (nat_lt most_shares (length v.shares + 1)) (refused_is (whys.Limit limits.Shares))
     (by_test (is_used v.users v.shares secret) (refused_is whys.Collision) (child_is (length v.shares + 1))))))
 
 request-answer : (v : View) (o : Option (ℕ × Share)) (with : Address) (sender_id : List ℕ) (asked : Option Rights) (secret : List ℕ) → IsPlain (request_reply v o with sender_id asked secret)

@@ -1,5 +1,6 @@
 use Rattle.std.specs.Prelude.{◌≡◌, ◌<◌, ◌≤◌, ℕ, ◌+◌, List, [], ◌∷◌, ◌++◌, length, map, not, ◌&&◌, if◌then◌else◌, nat_eq, Bool, true, false, Option, Some, None, min, IfSome, IsSome, IsSomeAnd, IsTrue, All}
 use Rattle.std.specs.List.{list_any}
+use Rattle.ocm_limits.specs.Limits.{most_messages, most_records, most_requests, most_restrictions, most_shares, most_users}
 use Rattle.ocm_types.specs.declared.phases.Phase.TheVariants.{Removed}
 use Rattle.ocm_types.specs.declared.phases.RequestPhase.TheVariants.{Undone}
 use Rattle.ocm_entry.specs.Proper.{is_short}
@@ -98,12 +99,12 @@ IsMessage st number = IsSome (at_number st.sent number)
 
 -- a new user keeps to the rules: not too many, another key
 pub record FitsUser (st : State) (user : User) : Type 0 where
-  pub few : length st.users < 4096
+  pub few : length st.users < most_users
   pub key : is_used st.users (view_in st).shares user.key ≡ false
 
 -- a new share keeps to the rules: not too many, another secret, a parent and an owner that are there, a root that was asked for
 pub record FitsShare (st : State) (share : Share) : Type 0 where
-  pub few : length st.shares < 65536
+  pub few : length st.shares < most_shares
   pub secret : is_used st.users (view_in st).shares share.secret ≡ false
   pub parent : IfSome share.parent (λ parent. IsShare st parent)
   pub owner : IsSome (at_number st.users share.owner)
@@ -111,7 +112,7 @@ pub record FitsShare (st : State) (share : Share) : Type 0 where
 
 -- a new request keeps to the rules: not too many, about a record that is there
 pub record FitsRequest (st : State) (request : Request) : Type 0 where
-  pub few : length st.requests < 65536
+  pub few : length st.requests < most_requests
   pub record_ : IsRecord st request.received
 
 -- what an answer does is about what is there
@@ -131,9 +132,9 @@ Fits st (changes.Carry carry) =
     (carry.nodes ≡ copies carry.from carry.to st.nodes) × IsSomeAnd (node_at st.nodes carry.from) (λ standing. limit_of_carry st.nodes carry.from carry.to carry.moving standing ≡ None)
 Fits st (changes.AddShare share) = FitsShare st share
 Fits st (changes.Close id) = IsShare st id
-Fits st (changes.Limit id perms) = IsShare st id × (st.limits < 4294967295)
+Fits st (changes.Limit id perms) = IsShare st id × (st.limits < most_restrictions)
 Fits st (changes.Expire id until) = IsShare st id
-Fits st (changes.Receive offer) = length st.received < 65536
+Fits st (changes.Receive offer) = length st.received < most_records
 Fits st (changes.SetPhase number phase) = IsRecord st number
 Fits st (changes.AddRequest request) = FitsRequest st request
 Fits st (changes.TakeBack request) = IsRequest st request
@@ -143,7 +144,7 @@ Fits st (changes.Settle number outcome) = IsMessage st number × FitsOutcome st 
 
 -- there are numbers left for so many more messages
 abbrev pub HasNumbers : State → List Message → Type 0
-HasNumbers st messages = length st.sent + length messages ≤ 1048576
+HasNumbers st messages = length st.sent + length messages ≤ most_messages
 
 -- ---- room
 

@@ -1,5 +1,6 @@
 //! Room for a change, and the change itself.
 ghost use Rattle.std.specs.Prelude.{◌≡◌, ◌≤◌, ◌<◌, ◌+◌, ◌++◌, length, map, None, All, IsSome, OnOk};
+ghost use Rattle.ocm_limits.specs.Limits.{most_messages, most_records, most_restrictions};
 ghost use Rattle.ocm_rules.specs.Numbers.{at_number};
 ghost use Rattle.ocm_rules.specs.Files.{limit_of};
 ghost use Rattle.ocm_rules.specs.State.{new_sent_row};
@@ -211,7 +212,7 @@ impl Tables {
 
     fn limit(&mut self, id: u32, perms: Perms)
         requires share { IsShare self.old.state id }
-        requires few { self.old.state.limits < 4294967295 }
+        requires few { self.old.state.limits < most_restrictions }
         ensures state { self.new.state ≡ acted self.old.state (changes.Limit id perms) }
         ensures entries { self.new.entries ≡ self.old.entries }
         ensures origins { self.new.origins ≡ self.old.origins }
@@ -232,7 +233,7 @@ impl Tables {
     }
 
     fn receive(&mut self, offer: PlannedOffer)
-        requires few { length self.old.state.received < 65536 }
+        requires few { length self.old.state.received < most_records }
         requires records { 0 < self.old.room.records }
         requires told { 0 < self.old.room.told }
         ensures state { self.new.state ≡ acted self.old.state (changes.Receive offer) }
@@ -335,7 +336,7 @@ fn tell_all(board: &mut Board, numbers: &[u32], serial: u32, perms: Perms)
 
 /// Adds messages behind those that were sent.
 fn send_all(outbox: &mut Outbox, messages: List<Message>)
-    requires few { length outbox.old.sent + length messages ≤ 1048576 }
+    requires few { length outbox.old.sent + length messages ≤ most_messages }
     requires room { length messages ≤ outbox.old.room }
     ensures { outbox.new.sent ≡ outbox.old.sent ++ map new_sent_row messages }
 {

@@ -1,5 +1,6 @@
 //! Users, and who holds a secret.
 ghost use Rattle.std.specs.Prelude.{◌≡◌, ◌≤◌, [], length, IfOk, IfSome, IsSome, IsTrue, option_copied};
+ghost use Rattle.ocm_limits.specs.Limits.{most_users};
 ghost use Rattle.ocm_types.specs.Rights.{all_rights};
 ghost use Rattle.ocm_entry.specs.Proper.{is_short};
 ghost use Rattle.ocm_rules.specs.Numbers.{at_number};
@@ -27,7 +28,7 @@ impl Tables {
     /// How many users there are.
     pub fn user_count(&self) -> u32
         ensures count { result ≡ length self.now.state.users }
-        ensures within { result ≤ 4096 }
+        ensures within { result ≤ most_users }
     {
         self.users.count()
     }

@@ -1,5 +1,5 @@
 //! Messages to other servers.
-ghost use Rattle.std.specs.Prelude.{◌≡◌, ◌≤◌, length, IfOk, IfSome, IsSome, option_copied, option_map};
+ghost use Rattle.std.specs.Prelude.{◌≡◌, IfOk, IfSome, IsSome, option_copied, option_map};
 ghost use Rattle.ocm_rules.specs.declared.rows.Message.{Message};
 ghost use Rattle.ocm_rules.specs.Numbers.{at_number};
 ghost use Rattle.ocm_rules.specs.Messages.{as_sent, change_count, due_among};
@@ -12,14 +12,6 @@ use ocm_rules::Subject;
 use ocm_types::{Numbered, ProviderId};
 
 impl Tables {
-    /// How many messages there are.
-    pub fn message_count(&self) -> u32
-        ensures count { result ≡ length self.now.state.sent }
-        ensures within { length self.now.state.sent ≤ 1048576 }
-    {
-        self.outbox.count()
-    }
-
     /// The message of this number, as it is sent.
     pub fn message(&self, number: u32) -> Option<&Numbered>
         ensures { option_copied result ≡ option_map (λ message. as_sent (number, message)) (at_number (view_in self.now.state).messages number) }

@@ -5,10 +5,10 @@ use Rattle.ocm_path.specs.Escapes.{escape}
 use Rattle.ocm_path.specs.Paths.{Segments, is_root, joined_escaped, path_escaped}
 use Rattle.ocm_types.specs.declared.addresses.Address.{Address}
 use Rattle.ocm_types.specs.declared.phases.Phase.{Phase}
-use Rattle.ocm_types.specs.declared.phases.Phase.TheVariants.{Pending, Accepting, Confirmed, Refused, Declined, Removed}
 use Rattle.ocm_types.specs.declared.phases.RequestPhase.{RequestPhase}
 use Rattle.ocm_types.specs.declared.phases.RequestPhase.TheVariants as states
 use Rattle.ocm_types.specs.declared.rights.Rights.{Rights}
+use Rattle.ocm_types.specs.Phases.{phase_word}
 use Rattle.ocm_types.specs.Rights.{perms_text}
 use Rattle.ocm_entry.specs.declared.listings.DavItem.{DavItem}
 use Rattle.ocm_entry.specs.declared.listings.Line.{Line}
@@ -41,15 +41,6 @@ abbrev pub live_text : Bool → List ℕ
 live_text true = codes "live"
 live_text false = codes "closed"
 
--- the phase of a received offer
-abbrev pub phase_text : Phase → List ℕ
-phase_text Pending = codes "pending"
-phase_text Accepting = codes "accepting"
-phase_text Confirmed = codes "confirmed"
-phase_text Refused = codes "refused"
-phase_text Declined = codes "declined"
-phase_text Removed = codes "removed"
-
 -- the state of a request, with the child that was granted
 abbrev pub state_text : RequestPhase → List ℕ
 state_text states.Asked = codes "asked"
@@ -67,6 +58,6 @@ abbrev pub listing_text : Line → List ℕ
 listing_text (Share id path with perms live) =
     spaced (codes "share") (spaced (decimal id) (spaced (path_escaped path) (spaced (address_text with) (spaced (perms_text perms) (live_text live)))))
 listing_text (Received number offer phase) =
-    spaced (codes "received") (spaced (decimal number) (spaced (address_text offer.owner) (spaced (escape offer.id) (spaced (perms_text offer.perms) (spaced (phase_text phase) (escape offer.name))))))
+    spaced (codes "received") (spaced (decimal number) (spaced (address_text offer.owner) (spaced (escape offer.id) (spaced (perms_text offer.perms) (spaced (phase_word phase) (escape offer.name))))))
 listing_text (Request number received with perms state) =
     spaced (codes "request") (spaced (decimal number) (spaced (decimal received) (spaced (address_text with) (spaced (asked_text perms) (state_text state)))))

@@ -6,7 +6,7 @@ ghost use Rattle.std.specs.Fmt.{decimal};
 ghost use Rattle.ocm_path.specs.Escapes.{escape};
 ghost use Rattle.ocm_path.specs.Paths.{is_root, path_escaped};
 ghost use Rattle.ocm_types.specs.Rights.{perms_text};
-ghost use Rattle.ocm_transcript.specs.Items.{spaced, address_text, href, size_text, item_text, live_text, phase_text, state_text, asked_text, listing_text};
+ghost use Rattle.ocm_transcript.specs.Items.{spaced, address_text, href, size_text, item_text, live_text, state_text, asked_text, listing_text};
 
 use crate::lines::{add_escaped, add_number};
 use ocm_base::{Bytes, NoMemory};
@@ -112,20 +112,6 @@ fn live_word(live: bool) -> &'static str
     if live { "live" } else { "closed" }
 }
 
-/// The phase of a received offer, in one word.
-fn phase_word(phase: Phase) -> &'static str
-    ensures { result.now ≡ phase_text phase }
-{
-    match phase {
-        Phase::Pending => "pending",
-        Phase::Accepting => "accepting",
-        Phase::Confirmed => "confirmed",
-        Phase::Refused => "refused",
-        Phase::Declined => "declined",
-        Phase::Removed => "removed",
-    }
-}
-
 /// Adds the state of a request, with the child that was granted.
 fn add_state(alloc: Global, text: &mut Bytes, state: &RequestPhase) -> Result<(), NoMemory>
     ensures { OnOk result (text.new ≡ text.old ++ state_text state.now) }
@@ -223,7 +209,7 @@ fn add_received(
 {
     add_kind(alloc, text, b"received", number)?;
     add_terms(alloc, text, offer)?;
-    text.add(phase_word(phase).as_bytes())?;
+    text.add(phase.word().as_bytes())?;
     text.add(b" ")?;
     add_escaped(alloc, text, offer.name.as_str())?;
     Ok(())

@@ -13,7 +13,8 @@ use Rattle.ocm_tree.specs.Orders.{numbers_where}
 use Rattle.ocm_tree.specs.Standings.{origins_of, is_left, is_copied, first_by}
 use Rattle.ocm_rules.proofs.Places.{same_place-refl, same_place-equal}
 use Rattle.ocm_rules.proofs.Nodes.{by_place, copies-one}
-use Rattle.ocm_tree.proofs.Once.{once-with_node, once-filter, once-carried, once-middle, other-way}
+use Rattle.ocm_rules.proofs.Once.{once-carried, once-filter, once-with_node, other-way}
+use Rattle.ocm_tree.proofs.Once.{once-middle}
 use Rattle.ocm_tree.proofs.OriginLists.{origins-where, origins-append, origins-copied, origins-with, numbers_with}
 use Rattle.ocm_tree.proofs.Parted.{length-where}
 

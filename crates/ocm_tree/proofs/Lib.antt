@@ -21,3 +21,4 @@ pub mod SlotNumbers
 pub mod SlotTags
 pub mod FirstStanding
 pub mod FirstAmong
+pub mod Spans

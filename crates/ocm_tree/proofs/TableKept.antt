@@ -10,7 +10,7 @@ use Rattle.ocm_rules.specs.State.{node_at}
 use Rattle.ocm_rules.proofs.Lists.{both_pass}
 use Rattle.ocm_rules.proofs.Places.{same_place-equal}
 use Rattle.ocm_tree.specs.Tables.{Index, Slots, somes, slot_of, size_at, counted, IsTable}
-use Rattle.ocm_tree.proofs.Once.{once-with_node, once-filter}
+use Rattle.ocm_rules.proofs.Once.{once-filter, once-with_node}
 use Rattle.ocm_tree.proofs.NodeLists.{total_size-with_node, size_at-le-total_size, length-with_node, child_count-more}
 use Rattle.ocm_tree.proofs.LimitNumbers.{limit_of-none}
 use Rattle.ocm_tree.proofs.IndexNumbers.{push-with_node}

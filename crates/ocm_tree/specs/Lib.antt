@@ -5,4 +5,5 @@ pub mod Orders
 pub mod Standings
 pub mod Changes
 pub mod Tags
+pub mod Trails
 pub mod Trees

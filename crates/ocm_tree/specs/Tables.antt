@@ -3,6 +3,7 @@ use Rattle.std.specs.HashMap as hash
 use Rattle.std.specs.HashMap.{HashMap}
 use Rattle.std.specs.declared.hash.FoldHasher.{FoldHasher}
 use Rattle.std.specs.declared.hash.BuildHasherDefault.{BuildHasherDefault}
+use Rattle.ocm_limits.specs.Limits.{most_children, most_nodes, most_stored_bytes}
 use Rattle.ocm_types.specs.declared.phases.Which.{Which}
 use Rattle.ocm_types.specs.declared.phases.Which.TheVariants.{AllFiles, Nodes, Children}
 use Rattle.ocm_entry.specs.declared.rows.Place.{Place}
@@ -78,9 +79,9 @@ counted (Some count) = count
 -- the first limit that is passed by the bytes of all files, the number of nodes and that of a collection's nodes
 abbrev pub first_passed : ℕ → ℕ → ℕ → Option Which
 first_passed total count children =
-    if nat_lt 268435456 total then Some AllFiles
-    else (if nat_lt 65536 count then Some Nodes
-    else (if nat_lt 4096 children then Some Children else None))
+    if nat_lt most_stored_bytes total then Some AllFiles
+    else (if nat_lt most_nodes count then Some Nodes
+    else (if nat_lt most_children children then Some Children else None))
 
 -- what a tree keeps: a collection for the users' roots, nodes within the limits of a server, each place once, the indexes, the sum and the count of these nodes, and whether each lies where something stands
 pub record IsTable (root : Standing) (slots : Slots) (places children : Index) (count total : ℕ) (rooted : Bool) : Type 0 where
@@ -90,6 +91,6 @@ pub record IsTable (root : Standing) (slots : Slots) (places children : Index) (
   pub counts : (place : Place) → counted (hash.get same_place children place) ≡ child_count (somes slots) place
   pub adds_up : total ≡ total_size (somes slots)
   pub counted_up : count ≡ length (somes slots)
-  pub few : length (somes slots) ≤ 65536
-  pub light : total_size (somes slots) ≤ 268435456
+  pub few : length (somes slots) ≤ most_nodes
+  pub light : total_size (somes slots) ≤ most_stored_bytes
   pub lies : rooted ≡ true → IsRooted (somes slots)

@@ -6,15 +6,13 @@ ghost use Rattle.ocm_tree.specs.declared.amounts.Amount.{Amount};
 ghost use Rattle.ocm_tree.specs.declared.amounts.Amount.TheVariants.{Bytes};
 ghost use Rattle.ocm_tree.specs.Carries.{amount_of, amount_in, AreAmounts, makes_long_path, makes_long};
 
+use crate::branches::Branch;
 use crate::kept::KeptNode;
 use crate::limits::size_of;
 use crate::moving::joined_len;
-use crate::places::{are_siblings, is_at_or_above};
-use ocm_entry::{Node, Place};
+use ocm_entry::Place;
+use ocm_limits::MOST_PATH_BYTES;
 use ocm_types::Which;
-
-/// The most bytes that the text of a path may have.
-const MOST_PATH_BYTES: usize = 2_048;
 
 /// What is counted of the nodes after a copy or move.
 #[derive(Clone, Copy, Debug, PartialEq, Eq)]
@@ -38,38 +36,38 @@ pub struct Amounts {
 }
 
 /// Whether a node stays where it stands at a copy or move.
-pub fn stays(from: &Place, to: &Place, moving: bool, node: &Node) -> bool
-    ensures { result ≡ stays from.now to.now moving node.now }
+fn is_left(from: &Branch<'_>, to: &Branch<'_>, moving: bool, kept: &KeptNode) -> bool
+    ensures { result ≡ stays from.now to.now moving kept.now }
 {
-    !is_at_or_above(to, &node.place) && !(moving && is_at_or_above(from, &node.place))
+    !to.holds(kept) && !(moving && from.holds(kept))
 }
 
 /// Whether the copy of a node lies in the collection in which the copy of all lies.
-fn is_copied_beside(from: &Place, to: &Place, node: &Node) -> bool
-    ensures { result ≡ same_place (parent_of (moved from.now to.now node.now.place)) (parent_of to.now) }
+fn is_copied_beside(from: &Place, to: &Place, place: &Place) -> bool
+    ensures { result ≡ same_place (parent_of (moved from.now to.now place.now)) (parent_of to.now) }
 {
-    let depth = node.place.path.segments().len();
+    let depth = place.path.segments().len();
     let rest = depth.saturating_sub(from.path.segments().len());
     rest == 0 || rest == 1 && to.path.is_root()
 }
 
 /// What a node adds to the amounts after a copy or move: what it is worth where it stays, and what it
 /// is worth where it is copied to.
-fn amounts_of(from: &Place, to: &Place, moving: bool, node: &Node) -> Amounts
-    requires { amount_of Bytes from.now to.now moving node.now ≤ 4294967296 }
-    ensures amounts { AreAmounts result (λ what. amount_of what from.now to.now moving node.now) }
-    ensures long { result.long ≡ makes_long_path from.now to.now node.now }
+fn amounts_of(from: &Branch<'_>, to: &Branch<'_>, moving: bool, kept: &KeptNode) -> Amounts
+    requires { amount_of Bytes from.now to.now moving kept.now ≤ 4294967296 }
+    ensures amounts { AreAmounts result (λ what. amount_of what from.now to.now moving kept.now) }
+    ensures long { result.long ≡ makes_long_path from.now to.now kept.now }
 {
-    let stayed = stays(from, to, moving, node);
-    let copied = is_at_or_above(from, &node.place);
-    let beside = stayed && are_siblings(&node.place, to);
-    let copied_beside = copied && is_copied_beside(from, to, node);
-    let size = size_of(&node.standing);
+    let stayed = is_left(from, to, moving, kept);
+    let copied = from.holds(kept);
+    let beside = stayed && to.is_beside(kept);
+    let copied_beside = copied && is_copied_beside(from.place(), to.place(), kept.place());
+    let size = size_of(kept.standing());
     Amounts {
         bytes: times(stayed, size) + times(copied, size),
         nodes: u64::from(stayed) + u64::from(copied),
         siblings: u64::from(beside) + u64::from(copied_beside),
-        long: makes_long_path(from, to, node),
+        long: makes_long_path(from, to, kept),
     }
 }
 
@@ -81,13 +79,13 @@ fn times(counts: bool, number: u64) -> u64
 }
 
 /// What the node of a slot adds to the amounts after a copy or move.
-fn amounts_in(from: &Place, to: &Place, moving: bool, slot: &Option<KeptNode>) -> Amounts
+fn amounts_in(from: &Branch<'_>, to: &Branch<'_>, moving: bool, slot: &Option<KeptNode>) -> Amounts
     requires { amount_in Bytes from.now to.now moving slot.now ≤ 4294967296 }
     ensures amounts { AreAmounts result (λ what. amount_in what from.now to.now moving slot.now) }
     ensures long { result.long ≡ makes_long from.now to.now slot.now }
 {
     match slot {
-        Some(kept) => amounts_of(from, to, moving, kept.node()),
+        Some(kept) => amounts_of(from, to, moving, kept),
         None => Amounts {
             bytes: 0,
             nodes: 0,
@@ -98,7 +96,12 @@ fn amounts_in(from: &Place, to: &Place, moving: bool, slot: &Option<KeptNode>) -
 }
 
 /// The amounts of the nodes after a copy or move, in one pass.
-pub fn amounts_after(from: &Place, to: &Place, moving: bool, slots: &[Option<KeptNode>]) -> Amounts
+pub fn amounts_after(
+    from: &Branch<'_>,
+    to: &Branch<'_>,
+    moving: bool,
+    slots: &[Option<KeptNode>],
+) -> Amounts
     requires { (what : Amount) → sum_by (amount_in what from.now to.now moving) slots.now ≤ 4294967296 }
     ensures amounts { AreAmounts result (λ what. sum_by (amount_in what from.now to.now moving) slots.now) }
     ensures long { result.long ≡ list_any (makes_long from.now to.now) slots.now }
@@ -123,12 +126,12 @@ pub fn amounts_after(from: &Place, to: &Place, moving: bool, slots: &[Option<Kep
 }
 
 /// Whether a node is copied to a path that is too long.
-fn makes_long_path(from: &Place, to: &Place, node: &Node) -> bool
-    ensures { result ≡ makes_long_path from.now to.now node.now }
+fn makes_long_path(from: &Branch<'_>, to: &Branch<'_>, kept: &KeptNode) -> bool
+    ensures { result ≡ makes_long_path from.now to.now kept.now }
 {
-    is_at_or_above(from, &node.place)
-        && joined_len(&to.path) + joined_len(&node.place.path)
-            > MOST_PATH_BYTES + joined_len(&from.path)
+    from.holds(kept)
+        && joined_len(&to.place().path) + joined_len(&kept.place().path)
+            > MOST_PATH_BYTES + joined_len(&from.place().path)
 }
 
 /// Whether one of two tests passes.

@@ -4,8 +4,8 @@ ghost use Rattle.ocm_rules.specs.Files.{copies, is_too_long};
 ghost use Rattle.ocm_tree.specs.Tables.{somes};
 ghost use Rattle.ocm_tree.specs.Carries.{carried, makes_long_path};
 
+use crate::branches::Branch;
 use crate::kept::KeptNode;
-use crate::places::is_at_or_above;
 use crate::plans::PlannedNode;
 use ocm_base::NoMemory;
 use ocm_entry::Place;
@@ -130,10 +130,11 @@ fn plan_copies(
     requires within { list_any (makes_long_path from.now to.now) (somes slots.now) ≡ false }
     ensures { IfOk result (λ planned. planned.items ≡ copies from.now to.now (somes slots.now)) }
 {
+    let branch = Branch::new(from);
     let mut planned = Vec::new(alloc);
     for slot in slots {
         if let Some(kept) = slot {
-            if is_at_or_above(from, kept.place()) {
+            if branch.holds(kept) {
                 planned.push(plan_copy(from, to, kept)?)?;
             }
         }

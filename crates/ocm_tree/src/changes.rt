@@ -1,8 +1,8 @@
 ghost use Rattle.std.specs.Prelude.{◌≡◌};
+ghost use Rattle.ocm_rules.specs.Files.{stays};
 ghost use Rattle.ocm_tree.specs.Standings.{is_left, is_copied};
 ghost use Rattle.ocm_tree.specs.Changes.{act_of, passes};
 
-use crate::amounts::stays;
 use crate::places::is_at_or_above;
 use ocm_entry::{Node, Place, Standing};
 
@@ -36,6 +36,13 @@ pub enum Part {
     Left,
     /// It is copied.
     Copied,
+}
+
+/// Whether a node stays where it stands at a copy or move.
+fn stays(from: &Place, to: &Place, moving: bool, node: &Node) -> bool
+    ensures { result ≡ stays from.now to.now moving node.now }
+{
+    !is_at_or_above(to, &node.place) && !(moving && is_at_or_above(from, &node.place))
 }
 
 /// Whether a node stays where it stands once a change is made.

@@ -10,6 +10,10 @@ use ocm_base::NoMemory;
 use std::alloc::Global;
 use std::marker::Model;
 
+/// How many numbers at most are each put at their place, where the rest makes way, before it is faster to
+/// sort all.
+const FEW: usize = 32;
+
 /// For each slot the number of the kept entry that put what stands there, or what stood there where the
 /// slot is empty, and the slots in the order of these numbers. Contracts see the numbers in the order of
 /// the slots, and for how many more there is room without memory.
@@ -102,6 +106,28 @@ impl EntryNumbers {
 
     /// Gives so many more slots these numbers. It takes no memory.
     pub fn extend(&mut self, more: &[u64])
+        requires { length more.now ≤ self.old.room }
+        ensures { self.new.numbers ≡ self.old.numbers ++ more.now }
+    {
+        if more.len() <= FEW {
+            self.add_each(more);
+        } else {
+            self.add_all(more);
+        }
+    }
+
+    /// Gives so many more slots these numbers, each put at its place.
+    fn add_each(&mut self, more: &[u64])
+        requires { length more.now ≤ self.old.room }
+        ensures { self.new.numbers ≡ self.old.numbers ++ more.now }
+    {
+        for number in more {
+            self.add(*number);
+        }
+    }
+
+    /// Gives so many more slots these numbers, and sorts all.
+    fn add_all(&mut self, more: &[u64])
         requires { length more.now ≤ self.old.room }
         ensures { self.new.numbers ≡ self.old.numbers ++ more.now }
     {

@@ -7,9 +7,9 @@ ghost use Rattle.ocm_entry.specs.declared.rows.Standing.TheVariants.{Collection}
 ghost use Rattle.ocm_rules.specs.Files.{same_place, parent_of};
 ghost use Rattle.ocm_tree.specs.Tables.{somes, slot_of, cleared, counted, IsTable};
 
+use crate::branches::Branch;
 use crate::kept::KeptNode;
 use crate::limits::size_of;
-use crate::places::is_at_or_above;
 use ocm_entry::{Place, Standing};
 use std::collections::HashMap;
 
@@ -109,12 +109,12 @@ pub fn drop_count(children: &mut HashMap<Place, u32>, there: &Place, parent: &Pl
 }
 
 /// Whether the node of a slot lies at a place or below it.
-fn is_below(slot: &Option<KeptNode>, there: &Place) -> bool
+fn is_below(slot: &Option<KeptNode>, there: &Branch<'_>) -> bool
     ensures clear { cleared there.now slot.now ≡ (if result then None else slot.now) }
     ensures full { result ≡ true → is_some slot.now ≡ true }
 {
     match slot {
-        Some(kept) => is_at_or_above(there, kept.place()),
+        Some(kept) => there.holds(kept),
         None => false,
     }
 }
@@ -152,7 +152,7 @@ fn remove_where_below(
     count: &mut usize,
     total: &mut u64,
     index: usize,
-    there: &Place,
+    there: &Branch<'_>,
 )
     requires within { index < length slots.old.items }
     requires table { IsTable Collection slots.old.items places.old children.old count.old total.old false }
@@ -174,7 +174,7 @@ pub fn remove_below(
     children: &mut HashMap<Place, u32>,
     count: &mut usize,
     total: &mut u64,
-    there: &Place,
+    there: &Branch<'_>,
 )
     requires table { IsTable Collection slots.old.items places.old children.old count.old total.old false }
     ensures table { IsTable Collection slots.new.items places.new children.new count.new total.new false }

@@ -4,9 +4,11 @@
 //! while other nodes go, and hash indexes beside them, so that to look up, to put, and to remove a file or
 //! an empty collection take no time that grows with the number of nodes. A listing passes over one number
 //! for each slot, a tag of the place in which its node lies, and looks at the nodes with the tag of the
-//! collection; to remove a collection that is not empty, to copy and to move walk over all slots. What
-//! wants memory is planned first, as a [`PlannedNode`] or a [`PlannedCarry`], and room is taken for it;
-//! the change itself wants none.
+//! collection; to remove a collection that is not empty, to copy and to move walk over all slots. Each
+//! node has a trail, a number of its user and its first segments: what lies at and below a place has its
+//! trail between two numbers, so that a walk compares numbers, and looks at few paths. What wants memory
+//! is planned first, as a [`PlannedNode`] or a [`PlannedCarry`], and room is taken for it; the change
+//! itself wants none.
 //!
 //! For each slot it keeps the number of the kept entry that put what stands there, copied along by
 //! copies and moves, and the slots in the order of these numbers: [`Tree::standing_by`] finds what an
@@ -15,6 +17,7 @@
 #![tactic(auto)]
 
 mod amounts;
+mod branches;
 mod carries;
 mod changes;
 mod entry_numbers;
@@ -30,6 +33,7 @@ mod orders;
 mod places;
 mod plans;
 mod tags;
+mod trails;
 mod trees;
 
 pub use carries::PlannedCarry;

@@ -3,19 +3,8 @@ ghost use Rattle.ocm_rules.specs.Files.{size_of};
 ghost use Rattle.ocm_tree.specs.Tables.{size_at, growth, first_passed};
 
 use ocm_entry::Standing;
+use ocm_limits::{MOST_CHILDREN, MOST_NODES, MOST_STORED_BYTES};
 use ocm_types::Which;
-
-/// The most bytes that a file may have.
-pub const MOST_FILE_BYTES: u64 = 1_048_576;
-
-/// The most bytes that all files together may have.
-const MOST_BYTES: u64 = 268_435_456;
-
-/// The most nodes that may stand.
-const MOST_NODES: u64 = 65_536;
-
-/// The most nodes that may lie in one collection.
-const MOST_CHILDREN: u64 = 4_096;
 
 /// The bytes of what stands: those of a file, none for a collection.
 pub fn size_of(standing: &Standing) -> u64
@@ -52,7 +41,7 @@ pub fn growth(standing: Option<&Standing>) -> u32
 pub fn first_passed(total: u64, count: u64, children: u64) -> Option<Which>
     ensures { result ≡ first_passed total count children }
 {
-    if total > MOST_BYTES {
+    if total > MOST_STORED_BYTES {
         Some(Which::AllFiles)
     } else if count > MOST_NODES {
         Some(Which::Nodes)

@@ -1,9 +1,11 @@
 ghost use Rattle.std.specs.Prelude.{◌≡◌, ◌<◌, ◌≤◌, ◌+◌, ◌∷◌, ◌++◌, [], length, map, true, Some, None, is_some, filter, OnOk, option_copied, slice_set};
+ghost use Rattle.ocm_limits.specs.Limits.{most_nodes, most_stored_bytes};
 ghost use Rattle.ocm_entry.specs.declared.rows.Node.{Node};
 ghost use Rattle.ocm_rules.specs.Files.{size_of, parent_of, total_size, child_count, limit_of};
 ghost use Rattle.ocm_rules.specs.State.{node_at, EachOnce};
 ghost use Rattle.ocm_tree.specs.Tables.{somes, slot_of, cleared, IsLeaf};
 
+use crate::branches::Branch;
 use crate::indexes::{
     are_both, counted, drop_count, drop_empty, number_places, put_in, remove_below, standing_in,
     take_out,
@@ -77,8 +79,8 @@ impl NodeTable {
     pub fn slots(&self) -> &[Option<KeptNode>]
         ensures slots { result.now ≡ self.now.slots }
         ensures once { EachOnce (somes self.now.slots) }
-        ensures few { length (somes self.now.slots) ≤ 65536 }
-        ensures light { total_size (somes self.now.slots) ≤ 268435456 }
+        ensures few { length (somes self.now.slots) ≤ most_nodes }
+        ensures light { total_size (somes self.now.slots) ≤ most_stored_bytes }
     {
         let _root = &self.root;
         &self.slots
@@ -125,7 +127,7 @@ impl NodeTable {
     /// How many nodes lie in the collection at a place.
     pub fn child_count(&self, place: &Place) -> u32
         ensures count { result ≡ child_count (somes self.now.slots) place.now }
-        ensures within { result ≤ 65536 }
+        ensures within { result ≤ most_nodes }
     {
         counted(self.children.get(place))
     }
@@ -133,7 +135,7 @@ impl NodeTable {
     /// The bytes of all files.
     pub fn total_size(&self) -> u64
         ensures total { result ≡ total_size (somes self.now.slots) }
-        ensures within { result ≤ 268435456 }
+        ensures within { result ≤ most_stored_bytes }
     {
         self.total
     }
@@ -141,7 +143,7 @@ impl NodeTable {
     /// How many nodes there are.
     pub fn len(&self) -> usize
         ensures len { result ≡ length (somes self.now.slots) }
-        ensures within { result ≤ 65536 }
+        ensures within { result ≤ most_nodes }
     {
         self.count
     }
@@ -216,7 +218,7 @@ impl NodeTable {
             &mut self.children,
             &mut self.count,
             &mut self.total,
-            place,
+            &Branch::new(place),
         );
     }
 
@@ -224,8 +226,8 @@ impl NodeTable {
     pub fn add_all(&mut self, nodes: Vec<PlannedNode>)
         requires room { length nodes.items ≤ self.old.room }
         requires once { EachOnce (somes self.old.slots ++ nodes.items) }
-        requires few { length (somes self.old.slots ++ nodes.items) ≤ 65536 }
-        requires light { total_size (somes self.old.slots ++ nodes.items) ≤ 268435456 }
+        requires few { length (somes self.old.slots ++ nodes.items) ≤ most_nodes }
+        requires light { total_size (somes self.old.slots ++ nodes.items) ≤ most_stored_bytes }
         ensures slots { self.new.slots ≡ self.old.slots ++ map (λ (n : Node). Some n) nodes.items }
     {
         for planned in nodes {
@@ -236,8 +238,8 @@ impl NodeTable {
     fn add_planned(&mut self, planned: PlannedNode)
         requires room { 0 < self.old.room }
         requires absent { node_at (somes self.old.slots) planned.place ≡ None }
-        requires few { length (somes self.old.slots) < 65536 }
-        requires light { total_size (somes self.old.slots) + size_of planned.standing ≤ 268435456 }
+        requires few { length (somes self.old.slots) < most_nodes }
+        requires light { total_size (somes self.old.slots) + size_of planned.standing ≤ most_stored_bytes }
         ensures slots { self.new.slots ≡ self.old.slots ++ Some planned ∷ [] }
         ensures room { self.old.room ≤ self.new.room + 1 }
     {
@@ -264,8 +266,8 @@ impl NodeTable {
         requires key { key ≡ node.place }
         requires parent { parent ≡ parent_of node.place }
         requires absent { node_at (somes self.old.slots) node.place ≡ None }
-        requires few { length (somes self.old.slots) < 65536 }
-        requires light { total_size (somes self.old.slots) + size_of node.standing ≤ 268435456 }
+        requires few { length (somes self.old.slots) < most_nodes }
+        requires light { total_size (somes self.old.slots) + size_of node.standing ≤ most_stored_bytes }
         ensures slots { self.new.slots ≡ self.old.slots ++ Some node ∷ [] }
         ensures room { self.old.room ≤ self.new.room + 1 }
     {

@@ -4,9 +4,8 @@ ghost use Rattle.ocm_rules.specs.Files.{is_at_or_above};
 ghost use Rattle.ocm_tree.specs.Orders.{numbers_where};
 ghost use Rattle.ocm_tree.specs.Tables.{slot_passes};
 
+use crate::branches::Branch;
 use crate::kept::KeptNode;
-use crate::places::is_at_or_above;
-use ocm_entry::Place;
 
 /// Keeps the numbers of the slots that are not empty.
 pub fn drop_numbers(numbers: &mut Vec<u64>, slots: &[Option<KeptNode>])
@@ -25,17 +24,22 @@ pub fn drop_numbers(numbers: &mut Vec<u64>, slots: &[Option<KeptNode>])
 }
 
 /// Whether the node of a slot lies at a place or below it.
-fn lies_below(there: &Place, slot: &Option<KeptNode>) -> bool
+fn lies_below(there: &Branch<'_>, slot: &Option<KeptNode>) -> bool
     ensures { result ≡ slot_passes (λ (n : Node). is_at_or_above there.now n.place) slot.now }
 {
     match slot {
-        Some(kept) => is_at_or_above(there, kept.place()),
+        Some(kept) => there.holds(kept),
         None => false,
     }
 }
 
 /// Writes down the numbers of the nodes at and below a place. It takes no memory.
-pub fn copy_numbers(kept: &mut Vec<u64>, numbers: &[u64], slots: &[Option<KeptNode>], there: &Place)
+pub fn copy_numbers(
+    kept: &mut Vec<u64>,
+    numbers: &[u64],
+    slots: &[Option<KeptNode>],
+    there: &Branch<'_>,
+)
     requires same { length slots.now ≡ length numbers.now }
     requires empty { kept.old.items ≡ [] }
     requires room { length (numbers_where (slot_passes (λ (n : Node). is_at_or_above there.now n.place)) slots.now numbers.now) ≤ vec_capacity kept.old }

@@ -14,7 +14,7 @@ pub fn is_at_or_above(above: &Place, place: &Place) -> bool
 }
 
 /// The segments of a path without the last; the root has none.
-fn parent_segments(path: &Path) -> &[Text]
+pub fn parent_segments(path: &Path) -> &[Text]
     ensures { result.now ≡ parent path.now }
 {
     let segments = path.segments();

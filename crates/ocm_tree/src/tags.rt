@@ -20,7 +20,7 @@ fn mixed(tag: u64, byte: u64) -> u64
 
 /// A tag with one segment more.
 #[tactic(auto, using(std::proofs::lemmas::List::Sums::fold_more), unfolding(crate::specs::Tags::mix_all))]
-fn mixed_all(tag: u64, segment: &[u8]) -> u64
+pub fn mixed_all(tag: u64, segment: &[u8]) -> u64
     requires { tag < 4294967296 }
     ensures mix { result ≡ mix_all tag segment.now }
     ensures within { result < 4294967296 }

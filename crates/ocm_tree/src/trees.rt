@@ -1,4 +1,5 @@
 ghost use Rattle.std.specs.Prelude.{◌≡◌, ◌≢◌, ◌<◌, ◌≤◌, ◌+◌, ◌++◌, ℕ, [], All, length, Some, None, filter, IfOk, IfSome, IsSomeAnd, OnOk, option_copied};
+ghost use Rattle.ocm_limits.specs.Limits.{most_file_bytes};
 ghost use Rattle.ocm_path.specs.Paths.{path_text};
 ghost use Rattle.ocm_entry.specs.declared.rows.Standing.{Standing};
 ghost use Rattle.ocm_entry.specs.declared.rows.Standing.TheVariants.{Collection, File};
@@ -10,11 +11,12 @@ ghost use Rattle.ocm_tree.specs.Carries.{limit_after};
 ghost use Rattle.ocm_tree.specs.Changes.{act_of};
 
 use crate::amounts::{amounts_after, limit_of_paths};
+use crate::branches::Branch;
 use crate::carries::PlannedCarry;
 use crate::changes::{FileChange, Part};
 use crate::entry_numbers::EntryNumbers;
 use crate::firsts::first_standing;
-use crate::limits::{MOST_FILE_BYTES, first_passed, growth, size_at};
+use crate::limits::{first_passed, growth, size_at};
 use crate::listing::{children_of, items_of};
 use crate::nodes::NodeTable;
 use crate::numbers::{copy_numbers, drop_numbers};
@@ -22,6 +24,7 @@ use crate::plans::PlannedNode;
 use crate::tags::{push_tags, tag_of};
 use ocm_base::{Bytes, List, NoMemory};
 use ocm_entry::{DavItem, Node, Place, Standing};
+use ocm_limits::MOST_FILE_BYTES;
 use ocm_path::Path;
 use ocm_types::Which;
 use std::alloc::Global;
@@ -107,7 +110,7 @@ impl Tree {
     /// The first limit that would be passed once something of so many bytes stands at a place.
     fn limit_of_size(&self, place: &Place, parent: &Place, size: u64) -> Option<Which>
         requires parent { parent.now ≡ parent_of place.now }
-        requires small { size ≤ 1048576 }
+        requires small { size ≤ most_file_bytes }
         ensures { (standing : Standing) → size_of standing ≡ size → result ≡ limit_of self.now.nodes (record { place = place.now; standing = standing }) }
     {
         let older = self.table.node_at(place);
@@ -230,7 +233,9 @@ impl Tree {
         ensures numbers { result.0 ≡ limit_after self.now.nodes from.now to.now moving }
         ensures paths { result.1 ≡ path_limit (copies from.now to.now self.now.nodes) }
     {
-        let after = amounts_after(from, to, moving, self.table.slots());
+        let source = Branch::new(from);
+        let target = Branch::new(to);
+        let after = amounts_after(&source, &target, moving, self.table.slots());
         let numbers = first_passed(after.bytes, after.nodes, after.siblings);
         (numbers, limit_of_paths(after.long))
     }
@@ -272,7 +277,7 @@ impl Tree {
             &mut numbers,
             self.numbers.numbers(),
             self.table.slots(),
-            &from,
+            &Branch::new(&from),
         );
         self.clear(&from, &to, moving);
         push_tags(&mut self.tags, &nodes);

@@ -1,8 +1,8 @@
 -- What is known of joined calls is known of both lists of them.
-use Rattle.std.proofs.Common.{◌≡◌, ◌≢◌, ℕ, ◌+◌, ◌<◌, List, [], ◌∷◌, Bool, true, false, cond, length, Some, sym, arith}
+use Rattle.std.proofs.Common.{◌≡◌, ◌≢◌, ◌<◌, List, [], ◌∷◌, true, false, cond, Some, sym, arith}
 use Rattle.std.specs.Prelude.{nat_lt}
 use Rattle.ocm_turn.specs.declared.view.Call.{Call}
-use Rattle.ocm_turn.specs.Calls.{entry_at, Each, InOrder, Disjoint, placed, merged}
+use Rattle.ocm_turn.specs.Calls.{entry_at, Each, placed, merged}
 use Rattle.ocm_turn.specs.Laws.{EachAlone, OrderedAreAlone, JoinedStand, JoinedAreAlone, JoinedAreCounted}
 use Rattle.ocm_turn.proofs.CallLemmas.{each_map, length_merged}
 

@@ -1,5 +1,5 @@
 -- Lists of views, one of which changes.
-use Rattle.std.proofs.Common.{◌≡◌, ℕ, zero, suc, ◌≢◌, ⊎_elim, List, [], ◌∷◌, ◌++◌, set, refl, sym, ap, ◌∙◌, subst, Bool, true, false, Option, Some, None, unwrap_or, get_or}
+use Rattle.std.proofs.Common.{◌≡◌, ℕ, zero, suc, ◌≢◌, ⊎_elim, List, [], ◌∷◌, ◌++◌, set, refl, sym, ap, ◌∙◌, subst, Bool, true, false, Option, Some, None, unwrap_or}
 use mathlib.Core.Option as home
 use mathlib.Core.Option.{some-injective, some-ne-none}
 use lib.ListN.{get_elem?}
@@ -30,12 +30,6 @@ module _ {A : Type 0} where
   pub alone : (j : ℕ) (w v : A) → get_elem? (w ∷ []) j ≡ home.some v → (w ≡ v) × (j ≡ 0)
   alone zero w v e = (some-injective w v e, refl)
   alone (suc j) w v e = absurd (some-ne-none v (sym e))
-
-abbrev pub holding : {T : Type 0} → T → List (ℕ × Option T)
-holding a = (0, Some a) ∷ []
-
-pub the_value : {T : Type 0} (a b : T) → holding a ≡ holding b → a ≡ b
-the_value {T} a b e = ap (λ (l : List (ℕ × Option T)). unwrap_or (get_or l 0 (0, Some a)).1 a) e
 
 pub same_some : {A : Type 0} (a b : A) → Some a ≡ Some b → a ≡ b
 same_some {A} a b e = ap (λ (o : Option A). unwrap_or o a) e

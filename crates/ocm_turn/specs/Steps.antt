@@ -50,6 +50,10 @@ module _ {G : Type 0} where
     pub order : InOrder v.mine
     pub met : (v.met_base ≡ v.base) × (v.met_terms ≡ v.terms)
 
+-- a seat holds the value, and the value has the terms of the seat's view and stands for its base and this history, which are legal
+abbrev pub HasInHand : {T G : Type 0} → (T → G) → (T → List Entry → List Entry → Type 0) → (G → List Entry → List Entry → Type 0) → Me (Option T) (View G) → List Entry → Type 0
+HasInHand {T} terms_of stands legal m history = (x : T) × (m.1 ≡ (0, Some x) ∷ []) × (m.0.terms ≡ Some (terms_of x)) × stands x m.0.base history × legal (terms_of x) m.0.base history
+
 module _ {T G : Type 0} where
   -- the base is named, at a load of word 0: one of which this is known
   abbrev pub names : (List Entry → Type 0) → Step (Option T) → Me (Option T) (View G) → ℕ → Me (Option T) (View G) → Type 0

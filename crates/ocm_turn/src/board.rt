@@ -3,7 +3,7 @@ ghost use Rattle.ocm_entry.specs.Proper.{is_proper};
 ghost use Rattle.ocm_entry.specs.declared.entries.Entry.{Entry};
 ghost use Rattle.ocm_turn.specs.Calls.{entry, IsOlderPart, StandIn, InOrder};
 ghost use Rattle.ocm_turn.specs.Rule.{newcomer, IsIdle};
-ghost use Rattle.ocm_turn.specs.Steps.{named, ticketed, found_at, turned_to, finished, called, IsLegal, beside, joined, Sound};
+ghost use Rattle.ocm_turn.specs.Steps.{named, ticketed, found_at, turned_to, finished, called, HasInHand, IsLegal, beside, joined, Sound};
 ghost use Rattle.ocm_turn.specs.declared.view.Stage.TheVariants.{Named};
 
 use crate::rule::{Cut, Draw, Finish, Founded, Glue, Law, Look, Name, Ring, Start, Told};
@@ -153,22 +153,27 @@ impl<T: Object> Board<T> {
         unreachable!()
     }
 
-    /// Takes the value out.
-    pub fn take_out(&self, seat: &mut Place<T>) -> T
+    /// Asks the value in the seat's hands. It stays in its slot: nothing of it is moved.
+    fn ask_value(&self, seat: &mut Place<T>, ask: Ask) -> Reply
         requires own { seat.old.table_id ≡ self.now.table.shared.table_id }
-        requires holds { (x : T) × (seat.old.me.1 ≡ (0, Some x) ∷ []) }
-        ensures own { (seat.new.table_id ≡ seat.old.table_id) × (seat.new.me ≡ (seat.old.me.0, (0, None) ∷ [])) }
-        ensures value { seat.old.me.1 ≡ (0, Some result) ∷ [] }
+        requires proper { IsTrue (is_proper ask) }
+        requires value { HasInHand T.terms T.stands T.legal seat.old.me seat.old.me.0.seen }
+        ensures own { (seat.new.table_id ≡ seat.old.table_id) × (seat.new.me.0 ≡ seat.old.me.0) }
+        ensures value { HasInHand T.terms T.stands T.legal seat.new.me (entry ask result ∷ seat.old.me.0.seen) }
     {
-        self.table.shared.exchange(seat, VALUE, None).unwrap()
+        match seat.slot_mut(&self.table.shared, VALUE) {
+            Some(value) => value.act(ask),
+            None => unreachable!(),
+        }
     }
 
-    /// Puts the value back.
-    pub fn put_back(&self, seat: &mut Place<T>, value: T)
-        requires own { (seat.old.table_id ≡ self.now.table.shared.table_id) × (seat.old.me.1 ≡ (0, None) ∷ []) }
-        ensures own { (seat.new.table_id ≡ seat.old.table_id) × (seat.new.me ≡ (seat.old.me.0, (0, Some value) ∷ [])) }
+    /// Takes the value out.
+    fn take_out(&self, mut seat: Place<T>) -> T
+        requires own { seat.table_id ≡ self.now.table.shared.table_id }
+        requires holds { (x : T) × (seat.me.1 ≡ (0, Some x) ∷ []) }
+        ensures value { seat.me.1 ≡ (0, Some result) ∷ [] }
     {
-        drop(self.table.shared.exchange(seat, VALUE, Some(value)));
+        self.table.shared.exchange(&mut seat, VALUE, None).unwrap()
     }
 
     /// Ends a call: the history gets its entry, and the next ticket has its turn.
@@ -176,7 +181,7 @@ impl<T: Object> Board<T> {
         requires own { seat.old.table_id ≡ self.now.table.shared.table_id }
         requires told { E.told ≡ entry ask.now.value reply.now }
         requires turn { (seat.old.me.0.turn ≡ true) × (seat.old.me.0.stage ≡ Named) }
-        requires value { (x : T) × (seat.old.me.1 ≡ (0, Some x) ∷ []) × (seat.old.me.0.terms ≡ Some (T.terms x)) × T.stands x seat.old.me.0.base (E.told ∷ seat.old.me.0.seen) × T.legal (T.terms x) seat.old.me.0.base (E.told ∷ seat.old.me.0.seen) }
+        requires value { HasInHand T.terms T.stands T.legal seat.old.me (E.told ∷ seat.old.me.0.seen) }
         ensures own { (seat.new.table_id ≡ seat.old.table_id) × (seat.new.me.1 ≡ []) }
         ensures told { seat.new.me.0 ≡ finished seat.old.me.0 E.told }
         ensures sound { Sound seat.new.me.0 × (length seat.new.me.0.mine ≤ length seat.new.me.0.seen) }
@@ -213,10 +218,8 @@ impl<T: Object> Board<T> {
     {
         let ticket = self.draw(rt, seat).ok_or(Spent)?;
         self.wait_turn(rt, seat, ticket);
-        let mut value = self.take_out(seat);
         let said = Snapshot::of(&ask);
-        let reply = value.act(ask);
-        self.put_back(seat, value);
+        let reply = self.ask_value(seat, ask);
         self.finish::<Brand>(seat, &said, &reply);
         Ok(reply)
     }
@@ -233,8 +236,7 @@ impl<T: Object> Board<T> {
     {
         let calls = self.draw_last(rt, &mut seat);
         self.wait_turn(rt, &mut seat, calls);
-        let value = self.take_out(&mut seat);
-        (value, calls)
+        (self.take_out(seat), calls)
     }
 
     /// Cuts a seat in two: the new one has seen the same and made no call.

@@ -1,4 +1,5 @@
 ghost use Rattle.std.specs.Prelude.{◌≡◌, IfOk};
+ghost use Rattle.ocm_types.specs.Phases.{phase_word};
 
 use crate::identifiers::ProviderId;
 use ocm_base::{Copied, NoMemory};
@@ -45,6 +46,22 @@ pub enum Phase {
     Declined,
     /// Its owner's server told that it is shared no more.
     Removed,
+}
+
+impl Phase {
+    /// The phase in one word, as `pending`.
+    pub fn word(self) -> &'static str
+        ensures { result.now ≡ phase_word self }
+    {
+        match self {
+            Phase::Pending => "pending",
+            Phase::Accepting => "accepting",
+            Phase::Confirmed => "confirmed",
+            Phase::Refused => "refused",
+            Phase::Declined => "declined",
+            Phase::Removed => "removed",
+        }
+    }
 }
 
 /// How far a recipient's request that a share be passed on has come (`REQUEST_RESHARE` of Open Cloud Mesh API 1.1).

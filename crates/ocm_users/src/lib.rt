@@ -6,7 +6,6 @@
 #![tactic(auto)]
 
 mod plans;
-mod rows;
 mod tables;
 
 pub use plans::PlannedUser;

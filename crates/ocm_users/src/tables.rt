@@ -1,11 +1,12 @@
 ghost use Rattle.std.specs.Prelude.{◌≡◌, ◌<◌, ◌≤◌, ◌+◌, ◌++◌, ◌∷◌, [], length, None, OnOk, option_copied};
+ghost use Rattle.ocm_limits.specs.Limits.{most_users};
 ghost use Rattle.ocm_rules.specs.Numbers.{at_number};
 ghost use Rattle.ocm_rules.specs.Users.{user_of_key, is_taken};
 
 use crate::plans::PlannedUser;
-use crate::rows::row_at;
 use ocm_base::NoMemory;
 use ocm_entry::User;
+use ocm_rules::row_at;
 use ocm_types::{Name, Secret};
 use std::alloc::Global;
 use std::collections::{HashMap, HashSet};
@@ -65,7 +66,7 @@ impl UserTable {
     /// How many users there are.
     pub fn count(&self) -> u32
         ensures count { result ≡ length self.now.users }
-        ensures within { result ≤ 4096 }
+        ensures within { result ≤ most_users }
     {
         self.rows.len() as u32
     }
@@ -91,7 +92,7 @@ impl UserTable {
     /// Adds a user, with a key that no user has.
     pub fn add(&mut self, planned: PlannedUser)
         requires room { 0 < self.old.room }
-        requires few { length self.old.users < 4096 }
+        requires few { length self.old.users < most_users }
         requires key { user_of_key self.old.users planned.key ≡ None }
         ensures users { self.new.users ≡ self.old.users ++ planned ∷ [] }
         ensures room { self.old.room ≤ self.new.room + 1 }

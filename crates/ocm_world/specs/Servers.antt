@@ -1,5 +1,6 @@
 -- The servers of a script, each with its session: what its disk opened to, and the calls since. Histories stand newest first.
 use Rattle.std.specs.Prelude.{ℕ, ◌-◌, List, [], ◌∷◌, ◌++◌, nat_lt, Bool, true, false, not, ◌&&◌, if◌then◌else◌, Option, Some, None, option_and_then, option_map}
+use Rattle.ocm_limits.specs.Limits.{replayed_area_bytes}
 use Rattle.ocm_types.specs.declared.letters.Numbered.{Numbered}
 use Rattle.ocm_entry.specs.declared.asks.Ask.{Ask}
 use Rattle.ocm_entry.specs.declared.replies.Reply.{Reply}
@@ -25,7 +26,7 @@ history server = server.calls ++ server.base
 
 -- how many bytes each area of its journal has: half of a disk of 67,108,864 bytes behind the first 512
 abbrev pub area : ℕ
-area = 33554176
+area = replayed_area_bytes
 
 -- the servers, in the order in which the script names them
 abbrev pub World : Type 0

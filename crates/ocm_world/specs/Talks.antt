@@ -2,6 +2,7 @@
 use Rattle.std.specs.Prelude.{◌≡◌, ◌⊎◌, ℕ, ◌+◌, ◌||◌, Bool, true, false, nat_eq, List, ◌++◌, length, replicate, codes, Option, Some, None}
 use Rattle.std.specs.Fmt.{decimal}
 use Rattle.ocm_base.specs.Hex.{hex}
+use Rattle.ocm_limits.specs.Limits.{last_connection_request, most_body_bytes}
 use Rattle.ocm_types.specs.Draws.{fresh_plus}
 use Rattle.ocm_entry.specs.declared.asks.Ask.{Ask}
 use Rattle.ocm_entry.specs.declared.asks.Ask.TheVariants.{Tick}
@@ -32,7 +33,7 @@ config_of host = record { host = host; admin = hex (replicate 16 255) }
 
 -- what the bytes of a connection are from a place on, behind which its input ends
 abbrev pub AreRequests : ℕ → List ℕ → Frame → Type 0
-AreRequests place bytes frame = IsFrame Requests 1048576 place bytes true frame
+AreRequests place bytes frame = IsFrame Requests most_body_bytes place bytes true frame
 
 -- ---- lines
 
@@ -110,7 +111,7 @@ closes (heads.Request method target closing fields) = closing
 closes (heads.Reply status fields) = true
 
 abbrev pub is_last : ℕ → Message → Bool
-is_last number message = nat_eq number 999 || closes message.head
+is_last number message = nat_eq number last_connection_request || closes message.head
 
 -- the line of a page, and behind it the line of the end where the connection ends with it
 abbrev pub page_lines : ℕ → List ℕ → Bool → List ℕ

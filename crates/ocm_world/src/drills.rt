@@ -2,6 +2,7 @@
 ghost use Rattle.std.specs.Prelude.{◌≡◌, ◌≤◌, ◌⊎◌, ℕ, List, [], map, Err, IfOk, OnOk, OnErr, IsTrue, length};
 ghost use Rattle.std.specs.List.{list_all};
 ghost use Rattle.ocm_base.specs.Outside.{Rose};
+ghost use Rattle.ocm_limits.specs.Limits.{most_lines};
 ghost use Rattle.ocm_drill.specs.Script as made;
 ghost use Rattle.ocm_drill.specs.Summary as summaries;
 ghost use Rattle.ocm_drill.specs.Summary.{AreCounts};
@@ -69,7 +70,7 @@ fn summarise(
 /// Runs the lines of a script, and counts the statuses of what they print.
 fn tally_lines(alloc: Global, events: &[Event], servers: &mut Servers) -> Result<Tally, NoMemory>
     requires proper { IsTrue (list_all asks_properly events.now) }
-    requires few { length events.now ≤ 100000 }
+    requires few { length events.now ≤ most_lines }
     requires none { servers.old ≡ [] }
     ensures { IfOk result (λ tally. (texts : List (List ℕ)) × (final : World) × Texts [] 1 events.now texts final × AreOf servers.new final × AreCounts tally texts) }
 {

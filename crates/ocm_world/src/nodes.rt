@@ -12,12 +12,10 @@ ghost use Rattle.ocm_store.specs.Stores.{disk_of};
 use ocm_base::NoMemory;
 use ocm_disk::{Crash, MemDisk};
 use ocm_entry::{Ask, Object, Reply};
+use ocm_limits::REPLAYED_DISK_BYTES;
 use ocm_store::{LoadFault, Store};
 use ocm_types::{Host, Numbered};
 use std::alloc::Global;
-
-/// The most bytes that the journal of a server takes on its disk.
-const LIMIT: u64 = 67_108_864;
 
 /// A server of a script: its host, its store, and what the last `clock` line told it, 0 before the first.
 #[derive(Drop)]
@@ -34,7 +32,7 @@ pub fn load(alloc: Global, disk: MemDisk, host: &Host, clock: u64) -> Result<Nod
     ensures { IfOk result (IsLoaded disk.images.seen host.now clock) }
 {
     let own = host.copy()?;
-    match Store::load(alloc, disk, host.copy()?, LIMIT) {
+    match Store::load(alloc, disk, host.copy()?, REPLAYED_DISK_BYTES) {
         Ok(store) => Ok(Node {
             host: own,
             store,

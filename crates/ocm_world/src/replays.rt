@@ -2,6 +2,7 @@
 ghost use Rattle.std.specs.Prelude.{◌≡◌, ◌≤◌, [], Err, OnOk, OnErr, IsTrue, length};
 ghost use Rattle.std.specs.List.{list_all};
 ghost use Rattle.ocm_base.specs.Outside.{Rose};
+ghost use Rattle.ocm_limits.specs.Limits.{most_lines};
 ghost use Rattle.ocm_script.specs.Events.{has_short_paths};
 ghost use Rattle.ocm_world.specs.Asked.{asks_properly};
 ghost use Rattle.ocm_world.specs.Running.{AreOf};
@@ -55,7 +56,7 @@ pub fn replay<K: Sink>(
     shelf: &mut Shelf,
 ) -> Result<(), WorldFault>
     requires short { IsTrue (list_all has_short_paths events.now) }
-    requires few { length events.now ≤ 100000 }
+    requires few { length events.now ≤ most_lines }
     requires empty { shelf.old ≡ [] }
     ensures ok { OnOk result ((final : World) × Writes events.now (K.taken sink.old) (K.taken sink.new) final × AreShelved final shelf.new) }
     ensures err { OnErr result (WritesPart events.now (K.taken sink.old) (K.taken sink.new)) }
@@ -75,7 +76,7 @@ fn run_events<K: Sink>(
     sink: &mut K,
 ) -> Result<(), WorldFault>
     requires proper { IsTrue (list_all asks_properly events.now) }
-    requires few { length events.now ≤ 100000 }
+    requires few { length events.now ≤ most_lines }
     requires none { servers.old ≡ [] }
     ensures ok { OnOk result ((final : World) × Writes events.now (K.taken sink.old) (K.taken sink.new) final × AreOf servers.new final) }
     ensures err { OnErr result (WritesPart events.now (K.taken sink.old) (K.taken sink.new)) }

@@ -19,22 +19,14 @@ use ocm_base::{Bytes, Joined, List, MemSink, NoMemory, PureSource, hex_of};
 use ocm_dav::{Config, Wanted, ask_of};
 use ocm_entry::{Ask, Reply};
 use ocm_http::{Fixed, FrameFault, Head, Message, Reader, write_fixed};
+use ocm_limits::{LAST_CONNECTION_REQUEST, MOST_BODY_BYTES, MOST_CONNECTION_REQUESTS};
 use ocm_pages::{Shape, page_of};
 use ocm_transcript::line_text;
 use ocm_types::{Fresh, Host};
 use std::alloc::Global;
 
-/// How many bytes the body of a request has at most.
-const MAX_BODY: u64 = 1_048_576;
-
 /// How many bytes are read at a time.
 const PIECE: usize = 4096;
-
-/// The most messages of a connection.
-const MESSAGES: u64 = 1000;
-
-/// The number of a connection's last message, counted from 0.
-const LAST: u64 = 999;
 
 /// The server answers what a connection sends. Message k, counted from 0, gets the drawn bytes and k more. Gives the
 /// lines that it prints: the pages, and how the connection ended.
@@ -75,12 +67,12 @@ fn answers(
     ensures { IfOk result (λ text. (server : Server) → IsOf node.old server
         → (after : Server) × Says config.now line fresh 0 0 bytes.now server after text × IsOf node.new after) }
 {
-    let Ok(mut reader) = Reader::requests(alloc, MAX_BODY) else {
+    let Ok(mut reader) = Reader::requests(alloc, MOST_BODY_BYTES) else {
         return no_memory(alloc, line);
     };
     let mut source = PureSource::new(bytes.copy()?, PIECE);
     let mut text = Bytes::new(alloc);
-    for number in 0..MESSAGES {
+    for number in 0..MOST_CONNECTION_REQUESTS {
         let message = match reader.next(&mut source) {
             Ok(Some(message)) => message,
             Ok(None) => {
@@ -99,7 +91,7 @@ fn answers(
             line,
             fresh.plus(number),
             &message,
-            number == LAST,
+            number == LAST_CONNECTION_REQUEST,
         )?;
         text.add(more.as_slice())?;
         if is_end {

@@ -4,6 +4,7 @@ ghost use Rattle.std.specs.List.{list_all, list_any};
 ghost use Rattle.std.specs.Option.{option_map_or};
 ghost use Rattle.ocm_base.specs.Hex.{AreBytes};
 ghost use Rattle.ocm_base.specs.Outside.{Appends, AppendsPart, Rose};
+ghost use Rattle.ocm_limits.specs.Limits.{most_lines};
 ghost use Rattle.ocm_access_log.specs.Lines as lines;
 ghost use Rattle.ocm_access_log.specs.Truth as truth;
 ghost use Rattle.ocm_disk.specs.Shelf.{bytes_of, disk_of};
@@ -46,7 +47,7 @@ pub fn trace<K: Sink>(
     shelf: &mut Shelf,
 ) -> Result<(), WorldFault>
     requires short { IsTrue (list_all has_short_paths events.now) }
-    requires few { length events.now ≤ 100000 }
+    requires few { length events.now ≤ most_lines }
     requires named { IsTrue (list_any (traced.names host.now) events.now) }
     requires empty { shelf.old ≡ [] }
     ensures ok { OnOk result ((final : World) × Traces events.now host.now (K.taken sink.old) (K.taken sink.new) final shelf.new × AreShelved final shelf.new) }
@@ -93,7 +94,7 @@ fn log_events(
     servers: &mut Servers,
 ) -> Result<Bytes, NoMemory>
     requires proper { IsTrue (list_all asks_properly events.now) }
-    requires few { length events.now ≤ 100000 }
+    requires few { length events.now ≤ most_lines }
     requires none { servers.old ≡ [] }
     ensures { IfOk result (λ log. (final : World) × Logged [] 1 host.now events.now log final × AreOf servers.new final) }
 {

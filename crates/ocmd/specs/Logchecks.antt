@@ -2,6 +2,7 @@
 use Rattle.std.specs.Prelude.{◌≡◌, ℕ, ◌+◌, nat_lt, ◌||◌, List, [], ◌∷◌, ◌++◌, length, take, drop, codes, Option, Some, None, if◌then◌else◌, Result, Ok, Err}
 use Rattle.std.specs.Fmt.{decimal}
 use Rattle.std.specs.Int.{w64, from_be_bytes}
+use Rattle.ocm_limits.specs.Limits.{most_audited_bytes}
 use Rattle.ocm_logcheck.specs.Checks as logs
 use Rattle.ocm_logcheck.specs.declared.faults.LogFault.{LogFault}
 use Rattle.ocm_logcheck.specs.declared.faults.LogFault.TheVariants as faults
@@ -9,10 +10,6 @@ use Rattle.ocmd.specs.Audits.{not_journal}
 use Rattle.ocmd.specs.Scripts.{bad_line}
 use Rattle.ocmd.specs.declared.ends.End.{End}
 use Rattle.ocmd.specs.declared.ends.End.TheVariants as whole
-
--- the most bytes of an image
-abbrev pub most_image : ℕ
-most_image = 1073741824
 
 -- how many bytes the image has, by the first eight bytes of an input
 abbrev pub image_length : List ℕ → ℕ
@@ -22,7 +19,7 @@ image_length bytes = from_be_bytes w64 (take 8 bytes)
 -- or has too many bytes.
 abbrev pub log_parts : List ℕ → Option (List ℕ × List ℕ)
 log_parts bytes =
-    if nat_lt (length bytes) (image_length bytes + 8) || nat_lt most_image (image_length bytes)
+    if nat_lt (length bytes) (image_length bytes + 8) || nat_lt most_audited_bytes (image_length bytes)
     then None
     else Some (take (image_length bytes) (drop 8 bytes), drop (image_length bytes) (drop 8 bytes))
 

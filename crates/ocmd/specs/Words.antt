@@ -1,5 +1,6 @@
 use Rattle.std.specs.Prelude.{◌≡◌, ℕ, ◌≤◌, ◌⊎◌, Bool, true, false, List, [], ◌∷◌, Option, Some, codes, if◌then◌else◌}
 use Rattle.ocm_base.specs.Decimal.{decimal_of}
+use Rattle.ocm_limits.specs.Limits.{most_audited_bytes, most_json_bytes, most_logcheck_bytes, most_script_bytes}
 use Rattle.ocm_types.specs.Hosts.{canonical_host_of}
 use Rattle.ocmd.specs.declared.words.Command.{Command}
 use Rattle.ocmd.specs.declared.words.Command.TheVariants as commands
@@ -65,9 +66,9 @@ input_of command left = if reads command then left else Some []
 
 -- the most bytes that a command takes
 abbrev pub most_bytes : Command → ℕ
-most_bytes commands.Replay = 16777216
-most_bytes (commands.Trace host) = 16777216
-most_bytes commands.Audit = 1073741824
-most_bytes commands.Logcheck = 1090519048
-most_bytes (commands.Check kind) = 65536
+most_bytes commands.Replay = most_script_bytes
+most_bytes (commands.Trace host) = most_script_bytes
+most_bytes commands.Audit = most_audited_bytes
+most_bytes commands.Logcheck = most_logcheck_bytes
+most_bytes (commands.Check kind) = most_json_bytes
 most_bytes _ = 0

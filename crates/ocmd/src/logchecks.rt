@@ -11,11 +11,9 @@ use crate::ends::{End, Fault};
 use crate::lines::numbered_line;
 use crate::words::Command;
 use ocm_base::{Bytes, NoMemory, Sink, write_all};
+use ocm_limits::MOST_AUDITED_BYTES;
 use ocm_logcheck::{LogFault, check_log};
 use std::alloc::Global;
-
-/// The most bytes of an image.
-const MOST_IMAGE: u64 = 1_073_741_824;
 
 /// Tests a log of reads against the image of the journal of the server that answered them, and tells how many lines it
 /// has, or why it is refused.
@@ -55,7 +53,7 @@ fn log_parts(bytes: &[u8]) -> Option<(&[u8], &[u8])>
     }
     let (front, rest) = bytes.split_at(8);
     let length = number_of(front);
-    if length > MOST_IMAGE || length > rest.len() as u64 {
+    if length > MOST_AUDITED_BYTES || length > rest.len() as u64 {
         return None;
     }
     Some(rest.split_at(length as usize))

@@ -2,6 +2,7 @@
 ghost use Rattle.std.specs.Prelude.{◌≡◌, ◌⊎◌, map};
 ghost use Rattle.std.specs.String.{string_bytes};
 ghost use Rattle.ocm_base.specs.Outside.{Appends, Rose};
+ghost use Rattle.ocm_remote.specs.Answers.{status_of};
 ghost use Rattle.ocm_remote.specs.Exchanges.{AsksPut};
 ghost use Rattle.ocm_remote.specs.Words.{IsOther, usage_line};
 
@@ -10,6 +11,7 @@ use ocm_network::TcpDial;
 use ocm_remote::{End, remote};
 use ocm_sockets::Pauses;
 use std::alloc::Global;
+use std::io::Eprint;
 use std::net::{Net, TcpListener, TcpStream};
 use std::sync::{Arc, Wait};
 use std::time;
@@ -41,5 +43,29 @@ pub fn run_remote<
             remote(alloc, words, source, sink, &mut dial)
         }
         Err(_) => End::NoMemory,
+    }
+}
+
+/// Tells on standard error how `dav` ended where nothing on standard output tells it, and answers the status of the program.
+pub fn told<R: Eprint>(rt: &R, end: End) -> u8
+    ensures { result ≡ status_of end }
+{
+    if let Some(what) = words_of(end) {
+        let _ = eprintln!(rt; "ocmd: {what}");
+    }
+    end.status()
+}
+
+/// How `dav` ended, in words, where nothing on standard output tells it.
+fn words_of(end: End) -> Option<&'static str> {
+    match end {
+        End::Done | End::Usage | End::Status => None,
+        End::ReadFault => Some("the input cannot be read"),
+        End::WriteFault => Some("the output cannot be written"),
+        End::NoMemory => Some("out of memory"),
+        End::TooLong => Some("the input has more than 1048576 bytes"),
+        End::DialFault => Some("the exchange with the server failed"),
+        End::BadReply => Some("what the server sent is no reply"),
+        End::NoDiscovery => Some("the host has no usable discovery document"),
     }
 }

@@ -4,6 +4,7 @@ ghost use Rattle.ocmd.specs.Words as specified;
 ghost use Rattle.ocmd.specs.Words.{AreOf, BeginTrace, IsSmall, kind_word, most_bytes};
 
 use ocm_base::{NoMemory, decimal_read};
+use ocm_limits::{MOST_AUDITED_BYTES, MOST_JSON_BYTES, MOST_LOGCHECK_BYTES, MOST_SCRIPT_BYTES};
 use ocm_types::Host;
 use std::alloc::Global;
 
@@ -154,10 +155,10 @@ impl Command {
         ensures { result ≡ most_bytes self.now }
     {
         match self {
-            Command::Replay | Command::Trace(_) => 16_777_216,
-            Command::Audit => 1_073_741_824,
-            Command::Logcheck => 1_090_519_048,
-            Command::Check(_) => 65_536,
+            Command::Replay | Command::Trace(_) => MOST_SCRIPT_BYTES,
+            Command::Audit => MOST_AUDITED_BYTES,
+            Command::Logcheck => MOST_LOGCHECK_BYTES,
+            Command::Check(_) => MOST_JSON_BYTES as u64,
             Command::Drill { .. } | Command::Help | Command::Version => 0,
         }
     }

@@ -2,9 +2,9 @@ use Rattle.std.proofs.Common.{rules}
 use Rattle.ocm_connections.specs.Talk.{ending_after}
 use Rattle.ocm_connections.proofs.serving.ending_after.Goals as goal
 
-pub returns-then-number-eq999 : goal.returns-then-number-eq999
+pub returns-then-number-eq-LAST_CONNECTION_REQUEST : goal.returns-then-number-eq-LAST_CONNECTION_REQUEST
 unfolding ending_after
-returns-then-number-eq999 c = search rules
+returns-then-number-eq-LAST_CONNECTION_REQUEST c = search rules
 
 pub returns-then-closes : goal.returns-then-closes
 unfolding ending_after

@@ -4,9 +4,11 @@ use Rattle.ocm_tree.specs.Carries.{carried}
 use Rattle.ocm_tree.proofs.Carried.{long-path}
 use Rattle.ocm_tree.proofs.amounts.makes_long_path.Goals as goal
 
-pub returns-then-is_at_or_above : goal.returns-then-is_at_or_above
-returns-then-is_at_or_above c =
-    let inside : is_at_or_above c.args.from.now c.args.node.now.place ≡ true = sym c.is_at_or_above.ensures ∙ c.if-is_at_or_above.true in
-    rw (c.joined_len.ensures.len, c.joined_len-then-is_at_or_above.ensures.len, c.joined_len-then-is_at_or_above-2.ensures.len)
-    (long-path c.args.from.now c.args.to.now c.args.node.now.place inside
-    ∙ ap (λ b. b && is_too_long (carried c.args.from.now c.args.to.now c.args.node.now)) (sym inside))
+pub returns-then-holds : goal.returns-then-holds
+returns-then-holds c =
+    let from = c.args.from.now in
+    let to = c.args.to.now in
+    let node = c.args.kept.now in
+    let inside : is_at_or_above from node.place ≡ true = sym c.holds.ensures ∙ c.if-holds.true in
+    rw (c.joined_len.ensures.len, c.joined_len-then-holds.ensures.len, c.joined_len-then-holds-2.ensures.len, c.place.ensures, c.place-then-holds.ensures, c.place-then-holds-2.ensures)
+    (long-path from to node.place inside ∙ ap (λ b. b && is_too_long (carried from to node)) (sym inside))

@@ -13,10 +13,10 @@ invariant_of-self c =
     let there = c.args.place.now in
     let slots = c.self.inside.slots.items in
     let after = c.remove_below.new.slots.items in
-    let set = ap somes c.remove_below.ensures.slots ∙ somes-cleared there slots in
+    let set = ap somes (rw c.new.ensures at c.remove_below.ensures.slots) ∙ somes-cleared there slots in
     let table = c.remove_below.ensures.table in
     removed-IsTable c.self.inside.root slots after there c.self.inside.places c.self.inside.children c.remove_below.new.places c.remove_below.new.children c.self.inside.count c.self.inside.total c.remove_below.new.count c.remove_below.new.total c.self.inside.rooted c.self.invariant
     set table.found (λ q. table.counts q ∙ ap (λ ns. child_count ns q) set) (table.counted_up ∙ ap length set) (table.adds_up ∙ ap total_size set)
 
 pub returns-clause-slots : goal.returns-clause-slots
-returns-clause-slots c = rw (← c.self.view_is) c.remove_below.ensures.slots
+returns-clause-slots c = rw (← c.self.view_is) (rw c.new.ensures at c.remove_below.ensures.slots)

@@ -10,7 +10,7 @@ use Rattle.ocm_tree.specs.Trees.{TreeLists}
 use Rattle.std.proofs.lemmas.List.{length-map}
 use Rattle.ocm_tree.specs.Tags.{parent_tag}
 use Rattle.ocm_tree.proofs.SlotTags.{tags-more}
-use Rattle.ocm_tree.proofs.Once.{once-carried}
+use Rattle.ocm_rules.proofs.Once.{once-carried}
 use Rattle.ocm_tree.proofs.OriginLists.{length-copied, origins-carried}
 use Rattle.ocm_tree.proofs.SlotNumbers.{length-in, length-more, more-in, somes-more, where-in}
 use Rattle.ocm_tree.proofs.trees.Tree.carry.Goals as goal
@@ -27,7 +27,7 @@ copy_numbers-requires-clause-room c =
     let found : numbers_where (slot_passes (λ (n : Node). is_at_or_above planned.from n.place)) slots numbers ≡ numbers_where (λ (n : Node). is_at_or_above planned.from n.place) (somes slots) (numbers_in slots numbers) = where-in (λ (n : Node). is_at_or_above planned.from n.place) slots numbers c.self.invariant.same in
     let many = ap length found ∙ length-copied planned.from planned.to (somes slots) (numbers_in slots numbers) (length-in slots numbers c.self.invariant.same) in
     let made = ap length (rw (← c.self.view_is) at c.requires.copies) in
-    rw (parts.from, c.slots.ensures.slots, c.numbers.ensures) (omega (arith, many, made, parts.room))
+    rw (c.new.ensures, parts.from, c.slots.ensures.slots, c.numbers.ensures) (omega (arith, many, made, parts.room))
 
 pub add_all-requires-clause-once : goal.add_all-requires-clause-once
 add_all-requires-clause-once c =
@@ -45,7 +45,7 @@ extend-requires c =
     let slots = c.self.inside.table.slots in
     let numbers = c.self.inside.numbers.numbers in
     let below = λ (n : Node). is_at_or_above planned.from n.place in
-    let more : c.deref-2.result.now ≡ numbers_where (slot_passes below) slots numbers = c.deref-2.ensures.value ∙ (c.copy_numbers.ensures ∙ rw (parts.from, c.slots.ensures.slots, c.numbers.ensures) refl) in
+    let more : c.deref-2.result.now ≡ numbers_where (slot_passes below) slots numbers = c.deref-2.ensures.value ∙ (c.copy_numbers.ensures ∙ rw (c.new.ensures, parts.from, c.slots.ensures.slots, c.numbers.ensures) refl) in
     let many = ap length (more ∙ where-in below slots numbers c.self.invariant.same) ∙ length-copied planned.from planned.to (somes slots) (numbers_in slots numbers) (length-in slots numbers c.self.invariant.same) in
     let made = ap length (rw (← c.self.view_is) at c.requires.copies) in
     let room = ap (λ (t : TreeLists). t.room) c.self-2.view_is in
@@ -67,7 +67,7 @@ invariant_of-self c =
     let numbers = c.self.inside.numbers.numbers in
     let below = λ (n : Node). is_at_or_above planned.from n.place in
     let added = c.into_parts-from.result.3.items in
-    let more : c.deref-2.result.now ≡ numbers_where (slot_passes below) slots numbers = c.deref-2.ensures.value ∙ (c.copy_numbers.ensures ∙ rw (parts.from, c.slots.ensures.slots, c.numbers.ensures) refl) in
+    let more : c.deref-2.result.now ≡ numbers_where (slot_passes below) slots numbers = c.deref-2.ensures.value ∙ (c.copy_numbers.ensures ∙ rw (c.new.ensures, parts.from, c.slots.ensures.slots, c.numbers.ensures) refl) in
     let many = ap length (more ∙ where-in below slots numbers c.self.invariant.same) ∙ length-copied planned.from planned.to (somes slots) (numbers_in slots numbers) (length-in slots numbers c.self.invariant.same) in
     let made = ap length (parts.nodes ∙ (rw (← c.self.view_is) at c.requires.copies)) in
     let first = length-more c.self-2.inside.table.slots added in
@@ -106,7 +106,7 @@ returns-clause-origins c =
     let same = length-in slots all c.self.invariant.same in
     let left : somes slots_left ≡ filter (stays planned.from planned.to planned.moving) nodes = ap (λ (t : TreeLists). t.nodes) c.self-2.view_is ∙ (rw (parts.from, parts.to, parts.moving, ← c.self.view_is) at c.clear.ensures.nodes) in
     let made : added ≡ copies planned.from planned.to nodes = parts.nodes ∙ (rw (← c.self.view_is) at c.requires.copies) in
-    let more : c.deref-2.result.now ≡ numbers_where below nodes numbers = c.deref-2.ensures.value ∙ (c.copy_numbers.ensures ∙ (rw (parts.from, c.slots.ensures.slots, c.numbers.ensures) (where-in below slots all c.self.invariant.same))) in
+    let more : c.deref-2.result.now ≡ numbers_where below nodes numbers = c.deref-2.ensures.value ∙ (c.copy_numbers.ensures ∙ (rw (c.new.ensures, parts.from, c.slots.ensures.slots, c.numbers.ensures) (where-in below slots all c.self.invariant.same))) in
     let also : length added ≡ length c.deref-2.result.now = ap length made ∙ sym (ap length more ∙ length-copied planned.from planned.to nodes numbers same) in
     let stayed : origins_of (filter (stays planned.from planned.to planned.moving) nodes) kept ≡ filter (origin_stays planned.from planned.to planned.moving) (origins_of nodes numbers) =
     ap (λ (ns : List Node). origins_of ns kept) (sym left) ∙ (ap (λ (t : TreeLists). t.origins) c.self-2.view_is ∙ (rw (parts.from, parts.to, parts.moving, ← c.self.view_is) at c.clear.ensures.origins)) in

@@ -1,3 +1,4 @@
+//! Rows by their numbers.
 ghost use Rattle.std.specs.Prelude.{◌≡◌, option_copied};
 ghost use Rattle.ocm_rules.specs.Numbers.{at_number};
 
