@@ -292,9 +292,15 @@ raw() { exec 7<>"/dev/tcp/$host/$port"; printf "$1" >&7; timeout 15 cat <&7; exe
 is 'no HTTP' "$fixed" "$(raw 'GARBAGE\r\n\r\n')"
 is 'both lengths' "$fixed" "$(raw 'PUT /dav/x HTTP/1.1\r\nContent-Length: 1\r\nTransfer-Encoding: chunked\r\n\r\n0\r\n\r\n')"
 is 'two requests in one piece' 2 "$(raw 'GET /other HTTP/1.1\r\n\r\nGET /other HTTP/1.1\r\nConnection: close\r\n\r\n' | grep -c 'HTTP/1.1 404')"
-is 'PUT of 1 MiB in chunks' 201 "$(said -u "$alice:" -H 'Transfer-Encoding: chunked' -H 'Expect:' -T - "$dav/docs/large" <zeros)"
+is 'a refused head without its body' "$fixed" "$(raw 'PUT /dav/x HTTP/1.1\r\nContent-Length: 9999999\r\n\r\n')"
+exec 7<>"/dev/tcp/$host/$port"
+printf 'PUT /dav/docs/asked HTTP/1.1\r\nAuthorization: Bearer %s\r\nContent-Length: 5\r\nExpect: 100-continue\r\n\r\n' "$alice" >&7
+for line in interim empty; do IFS= read -r -t 15 "$line" <&7; done
+printf 'hello' >&7; IFS= read -r -t 15 final <&7; exec 7>&-
+is 'a body that waits to be asked for' $'HTTP/1.1 100 Continue\r+\r+HTTP/1.1 201 Created\r' "$interim+$empty+$final"
+is 'PUT of 1 MiB in chunks' 201 "$(said -u "$alice:" -H 'Transfer-Encoding: chunked' -T - "$dav/docs/large" <zeros)"
 is 'GET of 1 MiB' '200 same' "$(curl -s -u "$alice:" -o large -w '%{http_code}' "$dav/docs/large") $(cmp -s large zeros && echo same)"
-is 'PUT of one byte more' 400 "$( (cat zeros; echo -n x) | said -u "$alice:" -H 'Expect:' -X PUT --data-binary @- "$dav/docs/larger")"
+is 'PUT of one byte more' 400 "$( (cat zeros; echo -n x) | said -u "$alice:" -X PUT --data-binary @- "$dav/docs/larger")"
 for _ in {1..20}; do (exec 7<>"/dev/tcp/$host/$port"; printf 'GET /dav/docs/large HTTP/1.1\r\nAuthorization: Bearer '"$alice"'\r\n\r\n' >&7; exec 7>&-); done
 is 'twenty that leave before the page came' $'hello\n200' "$(ask -u "$alice:" "$dav/docs/x")"
 kill -0 "$a_pid"; is 'the server stands' 0 $?

@@ -41,8 +41,10 @@ fn key_and_path(alloc: Global, row: &str) -> Option<(Secret, Path)>
     ensures { IfSome result (λ both. IsTrue (is_short both.1)) }
 {
     let (key, path) = row.split_once(' ')?;
-    let key = Secret::read(alloc, key).ok()?;
-    and(key, Path::read(alloc, path)).ok()
+    match Secret::read(alloc, key) {
+        Ok(key) => and(key, Path::read(alloc, path)).ok(),
+        Err(_) => None,
+    }
 }
 
 /// A request for files, `KEY PATH`.
@@ -82,9 +84,18 @@ fn share(alloc: Global, row: &str) -> Option<Ask>
     let (row, fresh) = row.rsplit_once(' ')?;
     let (row, perms) = row.rsplit_once(' ')?;
     let (row, with) = row.rsplit_once(' ')?;
-    let fresh = Fresh::read(fresh)?;
-    let perms = Perms::read_list(perms)?;
-    match and(key_and_path(alloc, row)?, Address::read(alloc, with)) {
+    match (Fresh::read(fresh), Perms::read_list(perms)) {
+        (Some(fresh), Some(perms)) => shared(alloc, row, with, perms, fresh),
+        _ => None,
+    }
+}
+
+/// A share of what stands at a path, `KEY PATH`, with this guest.
+fn shared(alloc: Global, row: &str, with: &str, perms: Perms, fresh: Fresh) -> Option<Ask>
+    ensures { IfSome result (λ ask. IsTrue (is_proper ask)) }
+{
+    let read = key_and_path(alloc, row)?;
+    match and(read, Address::read(alloc, with)) {
         Ok(((key, path), with)) => Some(Ask::Local {
             key,
             cmd: Cmd::Share {
@@ -103,11 +114,14 @@ fn settle(row: &str) -> Option<Ask>
     ensures { IfSome result (λ ask. IsTrue (is_proper ask)) }
 {
     let (number, status) = row.split_once(' ')?;
-    Some(Ask::Settle {
-        number: number.parse().ok()?,
-        status: status.parse().ok()?,
-        id: None,
-    })
+    match (number.parse(), status.parse()) {
+        (Ok(number), Ok(status)) => Some(Ask::Settle {
+            number,
+            status,
+            id: None,
+        }),
+        _ => None,
+    }
 }
 
 /// The end of a share, `KEY NUMBER UNTIL`.
@@ -116,8 +130,9 @@ fn expire(alloc: Global, row: &str) -> Option<Ask>
 {
     let (row, until) = row.rsplit_once(' ')?;
     let (key, id) = row.split_once(' ')?;
-    let id = id.parse().ok()?;
-    let until = until.parse().ok()?;
+    let (Ok(id), Ok(until)) = (id.parse(), until.parse()) else {
+        return None;
+    };
     match Secret::read(alloc, key) {
         Ok(key) => Some(Ask::Local {
             key,

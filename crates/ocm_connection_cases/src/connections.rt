@@ -19,9 +19,16 @@ pub fn numbers(alloc: Global, words: &str) -> Option<List<u64>> {
 
 fn add_numbers(numbers: &mut List<u64>, words: &str) -> Option<()> {
     for word in words.split(',') {
-        numbers.push(word.parse().ok()?).ok()?;
+        add_number(numbers, word)?;
     }
     Some(())
+}
+
+fn add_number(numbers: &mut List<u64>, word: &str) -> Option<()> {
+    match word.parse() {
+        Ok(number) => numbers.push(number).ok(),
+        Err(_) => None,
+    }
 }
 
 /// A connection that gives these bytes, at most so many at a read, fails at the reads of these numbers, and takes so many

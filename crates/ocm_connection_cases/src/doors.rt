@@ -1,5 +1,5 @@
 //! Workers side by side.
-ghost use Rattle.std.specs.Prelude.{◌<◌, List, [], length};
+ghost use Rattle.std.specs.Prelude.{List, []};
 ghost use Rattle.ocm_entry.specs.declared.entries.Entry.{Entry};
 ghost use Rattle.ocm_store.specs.Stores.{IsLegalUnder, Stands, terms_of};
 
@@ -29,29 +29,32 @@ pub fn doors_told<R: Threads + Wait + Sync>(
     row: &str,
 ) -> Option<String> {
     let (asks, row) = row.split_once('|')?;
-    match workers_of(alloc, row) {
-        Some(mut workers) => {
-            let told = asked_told(rt, alloc, config, workers.as_mut_slice(), asks);
-            drop(workers);
-            told
-        }
+    match store_of(alloc, asks) {
+        Some(store) => store_told(rt, alloc, config, store, row),
         None => None,
     }
 }
 
-fn asked_told<R: Threads + Wait + Sync>(
+/// What the workers of these connections come to at a store.
+fn store_told<R: Threads + Wait + Sync>(
     rt: &R,
     alloc: Global,
     config: &Config,
-    workers: &mut [MemWorker],
-    asks: &str,
-) -> Option<String> {
-    if workers.is_empty() {
-        return None;
-    }
-    match store_of(alloc, asks) {
-        Some(store) => run_told(rt, alloc, config, workers, store),
-        None => None,
+    store: Store<MemDisk>,
+    row: &str,
+) -> Option<String>
+    requires stands { (k : List Entry) × Stands ⟦<MemDisk as Disk>⟧ store k [] × IsLegalUnder (terms_of store) k [] }
+{
+    match workers_of(alloc, row) {
+        Some(mut workers) => {
+            let told = run_told(rt, alloc, config, workers.as_mut_slice(), store);
+            drop(workers);
+            told
+        }
+        None => {
+            drop(store);
+            None
+        }
     }
 }
 
@@ -63,13 +66,19 @@ fn run_told<R: Threads + Wait + Sync>(
     workers: &mut [MemWorker],
     store: Store<MemDisk>,
 ) -> Option<String>
-    requires some { 0 < length workers.old }
     requires stands { (k : List Entry) × Stands ⟦<MemDisk as Disk>⟧ store k [] × IsLegalUnder (terms_of store) k [] }
 {
+    if workers.is_empty() {
+        drop(store);
+        return None;
+    }
     match serve_object::<Brand, Store<MemDisk>, MemDoor<GateConn>, MemDial, MemClock, R>(
         rt, alloc, config, workers, store, CALLS, [0; 32],
     ) {
-        Ok(finished) => with_workers(alloc, finished_told(alloc, finished)?, workers),
+        Ok(finished) => match finished_told(alloc, finished) {
+            Some(told) => with_workers(alloc, told, workers),
+            None => None,
+        },
         Err(store) => {
             drop(store);
             None
@@ -102,13 +111,16 @@ fn with_workers(alloc: Global, mut text: String, workers: &[MemWorker]) -> Optio
 
 fn add_workers(alloc: Global, text: &mut String, workers: &[MemWorker]) -> Option<()> {
     for worker in workers {
-        text.push_str(" |").ok()?;
         add_backs(alloc, text, worker.door.back())?;
     }
     Some(())
 }
 
+/// Adds what was told on each connection of a worker.
 fn add_backs(alloc: Global, text: &mut String, backs: &[Back<GateConn>]) -> Option<()> {
+    let Ok(()) = text.push_str(" |") else {
+        return None;
+    };
     for back in backs {
         add_back(alloc, text, back)?;
     }
@@ -116,9 +128,15 @@ fn add_backs(alloc: Global, text: &mut String, backs: &[Back<GateConn>]) -> Opti
 }
 
 fn add_back(alloc: Global, text: &mut String, back: &Back<GateConn>) -> Option<()> {
-    text.push_str(" ").ok()?;
     let told = ended_told(alloc, back.ended, back.conn.sink.bytes())?;
-    let added = text.push_str(told.as_str());
+    let added = add_behind_space(text, told.as_str());
     drop(told);
-    added.ok()
+    added
+}
+
+fn add_behind_space(text: &mut String, told: &str) -> Option<()> {
+    match text.push_str(" ") {
+        Ok(()) => text.push_str(told).ok(),
+        Err(_) => None,
+    }
 }

@@ -65,12 +65,16 @@ fn spelled_told<R: Threads + Wait + Sync>(rt: &R, alloc: Global, line: &str) -> 
 
 /// The line with the digits for `$A` and `$S`.
 fn spelled(alloc: Global, line: &str) -> Option<String> {
-    let line = line
-        .replace(alloc, "$A", "aaaaaaaaaaaaaaaaaaaaaaaaaaaaaaaa")
-        .ok()?;
-    line.as_str()
-        .replace(alloc, "$S", "000102030405060708090a0b0c0d0e0f")
-        .ok()
+    match line.replace(alloc, "$A", "aaaaaaaaaaaaaaaaaaaaaaaaaaaaaaaa") {
+        Ok(line) => {
+            let spelled = line
+                .as_str()
+                .replace(alloc, "$S", "000102030405060708090a0b0c0d0e0f");
+            drop(line);
+            spelled.ok()
+        }
+        Err(_) => None,
+    }
 }
 
 fn served_told<R: Threads + Wait + Sync>(rt: &R, alloc: Global, line: &str) -> Option<String> {
@@ -85,7 +89,9 @@ fn served_told<R: Threads + Wait + Sync>(rt: &R, alloc: Global, line: &str) -> O
 }
 
 fn config(alloc: Global) -> Option<Config> {
-    let host = Host::read(alloc, "a.example").ok()?;
+    let Ok(host) = Host::read(alloc, "a.example") else {
+        return None;
+    };
     match Secret::read(alloc, "ffffffffffffffffffffffffffffffff") {
         Ok(admin) => Some(Config { host, admin }),
         Err(_) => {

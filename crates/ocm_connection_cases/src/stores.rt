@@ -39,21 +39,15 @@ fn loaded(alloc: Global, disk: MemDisk) -> Option<Store<MemDisk>>
     ensures { IfSome result (λ store. (k : List Entry) × Stands ⟦<MemDisk as Disk>⟧ store k [] × IsLegalUnder (terms_of store) k []) }
 {
     match Host::read(alloc, "a.example") {
-        Ok(host) => loaded_for(alloc, disk, host),
+        Ok(host) => match Store::load(alloc, disk, host, JOURNAL) {
+            Ok(store) => Some(store),
+            Err(failed) => {
+                drop(failed);
+                None
+            }
+        },
         Err(_) => {
             drop(disk);
-            None
-        }
-    }
-}
-
-fn loaded_for(alloc: Global, disk: MemDisk, host: Host) -> Option<Store<MemDisk>>
-    ensures { IfSome result (λ store. (k : List Entry) × Stands ⟦<MemDisk as Disk>⟧ store k [] × IsLegalUnder (terms_of store) k []) }
-{
-    match Store::load(alloc, disk, host, JOURNAL) {
-        Ok(store) => Some(store),
-        Err(failed) => {
-            drop(failed);
             None
         }
     }

@@ -34,6 +34,16 @@ impl Gates {
             _ => Arc::try_clone(&self.b),
         }
     }
+
+    /// The gates of two names.
+    fn both(
+        &self,
+        first: &str,
+        second: &str,
+    ) -> Result<(Arc<Gate, Global>, Arc<Gate, Global>), AllocError> {
+        let first = self.named(first)?;
+        and(first, self.named(second))
+    }
 }
 
 /// A worker for each list of connections, with `|` between two.
@@ -66,15 +76,33 @@ fn add_workers(
     row: &str,
 ) -> Option<()> {
     for row in row.split('|') {
-        workers.push(worker(alloc, gates, row)?).ok()?;
+        add_worker(alloc, gates, workers, row)?;
     }
     Some(())
 }
 
-fn worker(alloc: Global, gates: &Gates, row: &str) -> Option<MemWorker> {
+fn add_worker(alloc: Global, gates: &Gates, workers: &mut Vec<MemWorker>, row: &str) -> Option<()> {
+    let conns = conns_of(alloc, gates, row)?;
+    match MemDoor::new(alloc, conns) {
+        Ok(door) => workers.push(worker(alloc, door)).ok(),
+        Err(_) => None,
+    }
+}
+
+fn worker(alloc: Global, door: MemDoor<GateConn>) -> MemWorker {
+    Worker::new(
+        door,
+        MemDial::new(alloc, List::new(alloc)),
+        Draw::new([0; 32], 0),
+        MemClock::new(List::new(alloc)),
+    )
+}
+
+/// The connections of a worker, with ` & ` between two.
+fn conns_of(alloc: Global, gates: &Gates, row: &str) -> Option<List<GateConn>> {
     let mut conns = List::new(alloc);
     match add_conns(alloc, gates, &mut conns, row) {
-        Some(()) => worker_with(alloc, conns),
+        Some(()) => Some(conns),
         None => {
             drop(conns);
             None
@@ -82,23 +110,18 @@ fn worker(alloc: Global, gates: &Gates, row: &str) -> Option<MemWorker> {
     }
 }
 
-fn worker_with(alloc: Global, conns: List<GateConn>) -> Option<MemWorker> {
-    match MemDoor::new(alloc, conns) {
-        Ok(door) => Some(Worker::new(
-            door,
-            MemDial::new(alloc, List::new(alloc)),
-            Draw::new([0; 32], 0),
-            MemClock::new(List::new(alloc)),
-        )),
-        Err(_) => None,
-    }
-}
-
 fn add_conns(alloc: Global, gates: &Gates, conns: &mut List<GateConn>, row: &str) -> Option<()> {
     for row in row.split(" & ") {
-        conns.push(conn(alloc, gates, row)?).ok()?;
+        add_conn(alloc, gates, conns, row)?;
     }
     Some(())
+}
+
+fn add_conn(alloc: Global, gates: &Gates, conns: &mut List<GateConn>, row: &str) -> Option<()> {
+    match conn(alloc, gates, row) {
+        Some(conn) => conns.push(conn).ok(),
+        None => None,
+    }
 }
 
 /// The connection of these words, `BACK WAIT EVENT SET FAILS BYTES`.
@@ -107,11 +130,26 @@ fn conn(alloc: Global, gates: &Gates, row: &str) -> Option<GateConn> {
     let (wait, row) = row.split_once(' ')?;
     let (event, row) = row.split_once(' ')?;
     let (set, row) = row.split_once(' ')?;
-    let (fails, bytes) = row.split_once(' ')?;
-    let back = back.parse().ok()?;
-    let event = event_of(event)?;
-    let (wait, set) = and(gates.named(wait).ok()?, gates.named(set)).ok()?;
-    gated(alloc, bytes, back, fails, wait, event, set)
+    match (back.parse(), event_of(event)) {
+        (Ok(back), Some(event)) => between(alloc, gates, row, back, wait, event, set),
+        _ => None,
+    }
+}
+
+/// The connection of these words, `FAILS BYTES`, between the gates of two names.
+fn between(
+    alloc: Global,
+    gates: &Gates,
+    row: &str,
+    back: usize,
+    wait: &str,
+    event: GateEvent,
+    set: &str,
+) -> Option<GateConn> {
+    match gates.both(wait, set) {
+        Ok((wait, set)) => gated(alloc, row, back, wait, event, set),
+        Err(_) => None,
+    }
 }
 
 fn event_of(word: &str) -> Option<GateEvent> {
@@ -124,14 +162,13 @@ fn event_of(word: &str) -> Option<GateEvent> {
 
 fn gated(
     alloc: Global,
-    bytes: &str,
+    row: &str,
     back: usize,
-    fails: &str,
     wait: Arc<Gate, Global>,
     event: GateEvent,
     set: Arc<Gate, Global>,
 ) -> Option<GateConn> {
-    match held(alloc, bytes, back, fails) {
+    match held(alloc, row, back) {
         Some((conn, hold)) => Some(gate_conn(conn, hold, wait, event, set)),
         None => {
             drop(wait);
@@ -141,11 +178,15 @@ fn gated(
     }
 }
 
-/// A connection of these bytes, and the place of its last ones.
-fn held(alloc: Global, bytes: &str, back: usize, fails: &str) -> Option<(MemConn, usize)> {
+/// The connection of these words, `FAILS BYTES`, and the place of its last bytes.
+fn held(alloc: Global, row: &str, back: usize) -> Option<(MemConn, usize)> {
+    let (fails, bytes) = row.split_once(' ')?;
     let bytes = unescaped(alloc, bytes)?;
     let hold = bytes.len().saturating_sub(back);
     let conn = connection(alloc, bytes.as_bytes(), 4096, fails, 4096);
     drop(bytes);
-    Some((conn?, hold))
+    match conn {
+        Some(conn) => Some((conn, hold)),
+        None => None,
+    }
 }

@@ -14,7 +14,7 @@ use crate::kinds::{present, text_at};
 use ocm_json::FieldsRef;
 
 /// How an offer says where its share is found: `protocol.name`.
-#[derive(Clone, Copy, Debug, PartialEq, Eq)]
+#[derive(Clone, Copy)]
 pub enum Protocol {
     /// `webdav`: the older form, with all in `options`.
     Webdav,
@@ -23,7 +23,7 @@ pub enum Protocol {
 }
 
 /// What a notification tells: `notificationType`.
-#[derive(Clone, Copy, Debug, PartialEq, Eq)]
+#[derive(Clone, Copy)]
 pub enum Event {
     /// `SHARE_ACCEPTED`.
     Accepted,
@@ -40,7 +40,7 @@ pub enum Event {
 }
 
 /// What a local user asks: `command`.
-#[derive(Clone, Copy, Debug, PartialEq, Eq)]
+#[derive(Clone, Copy)]
 pub enum Command {
     User,
     Share,

@@ -27,4 +27,6 @@ pub use offer_json::write_offer;
 pub use offers::read_offer;
 pub use opening::fields_of;
 pub use values::{Discovery, ErrorBody, FieldNote, LocalAsk};
-pub use writing::{address_value, bytes_of, perms_if, perms_value, put_if, put_text};
+pub use writing::{
+    bytes_of, object_of, put_address, put_address_if, put_if, put_perms, put_perms_if, put_text,
+};

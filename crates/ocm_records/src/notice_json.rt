@@ -1,20 +1,23 @@
 //! Notifications as JSON.
 
-ghost use Rattle.std.specs.Prelude.{◌≡◌, IfOk, nat_le, true};
-ghost use Rattle.serde_json.specs.Data.{object};
+ghost use Rattle.std.specs.Prelude.{◌≡◌, IfOk, OnOk, codes, nat_le, true};
+ghost use Rattle.serde_json.specs.Data.{object, string, number, unsigned, put as with_member};
 ghost use Rattle.serde_json.specs.View.{view, members_view};
 ghost use Rattle.serde_json.specs.Written.{compact_text};
 ghost use Rattle.ocm_types.specs.Rights.{is_any};
 ghost use Rattle.ocm_types.specs.Texts.{is_provider_id, is_secret, is_sender_id};
+ghost use Rattle.ocm_types.specs.declared.letters.Notice.TheVariants.{Accepted, ReshareRequest, Changed};
 ghost use Rattle.ocm_records.specs.Notices.{notice};
 ghost use Rattle.ocm_records.specs.Rows.{record_of};
 ghost use Rattle.ocm_records.specs.Sound.{ReadsAsItself, AddressIf, PermsIf, HasMarks, IsNotice, is_numbered};
 ghost use Rattle.ocm_records.specs.Written as written;
 
-use crate::writing::{address_if, address_value, bytes_of, perms_if, perms_value, put_if};
+use crate::writing::{
+    bytes_of, object_of, put_address, put_address_if, put_perms, put_perms_if, put_text,
+};
 use ocm_base::{Bytes, NoMemory};
 use ocm_types::{Address, Notice, Perms, ProviderId, Secret, SenderId};
-use serde_json::{Map, Value, json, put};
+use serde_json::{Map, Value, put};
 use std::alloc::Global;
 
 /// Writes a notification: the body of POST to `{endPoint}/notifications` (Open Cloud Mesh API 1.1).
@@ -29,6 +32,45 @@ pub fn write_notice(alloc: Global, v: &Notice) -> Result<Bytes, NoMemory>
     Ok(bytes)
 }
 
+/// Adds what each notification has. The members are added from the last key on.
+fn put_told(
+    members: &mut Map<String, Value>,
+    alloc: Global,
+    event: &str,
+    id: &ProviderId,
+) -> Result<(), NoMemory>
+    ensures members { OnOk result (members_view members.new.entries
+        ≡ with_member (codes "notificationType") (string event.now)
+        (with_member (codes "providerId") (string id.now)
+        (with_member (codes "resourceType") (string (codes "file"))
+        (members_view members.old.entries)))) }
+    ensures sound { OnOk result (is_provider_id id.now ≡ true) }
+{
+    put_text(members, alloc, "resourceType", "file")?;
+    put_text(members, alloc, "providerId", id.as_str())?;
+    put_text(members, alloc, "notificationType", event)
+}
+
+/// Adds what each notification has, and the object that tells it.
+fn put_all(
+    members: &mut Map<String, Value>,
+    alloc: Global,
+    event: &str,
+    id: &ProviderId,
+    notification: Value,
+) -> Result<(), NoMemory>
+    ensures members { OnOk result (members_view members.new.entries
+        ≡ with_member (codes "notificationType") (string event.now)
+        (with_member (codes "providerId") (string id.now)
+        (with_member (codes "resourceType") (string (codes "file"))
+        (with_member (codes "notification") (view notification)
+        (members_view members.old.entries))))) }
+    ensures sound { OnOk result (is_provider_id id.now ≡ true) }
+{
+    put(members, alloc, "notification", notification)?;
+    put_told(members, alloc, event, id)
+}
+
 /// The notification of this type about a share, with the object that tells it.
 fn told_value(
     alloc: Global,
@@ -39,27 +81,47 @@ fn told_value(
     ensures value { IfOk result (λ v. view v ≡ written.told_data event.now id.now (view notification)) }
     ensures sound { IfOk result (λ _. is_provider_id id.now ≡ true) }
 {
-    let value = json!(in alloc; {
-        "notification": notification,
-        "notificationType": event,
-        "providerId": id.as_str(),
-        "resourceType": "file"
-    })?;
-    Ok(value)
-}
-
-/// The members that each notification has.
-fn secret_members(alloc: Global, secret: &Secret) -> Result<Map<String, Value>, NoMemory>
-    ensures members { IfOk result (λ m. members_view m.entries ≡ written.secret_member secret.now) }
-    ensures sound { IfOk result (λ _. is_secret secret.now ≡ true) }
-{
     let mut members = Map::new(alloc);
-    let value = Value::try_from_str(alloc, secret.as_str())?;
-    put(&mut members, alloc, "sharedSecret", value)?;
-    Ok(members)
+    let added = put_all(&mut members, alloc, event, id, notification);
+    object_of(members, added)
 }
 
-/// How a recipient understood the offer that it took. The members are added from the last key on.
+/// Adds the secret, which each notification has.
+fn put_secret(
+    members: &mut Map<String, Value>,
+    alloc: Global,
+    secret: &Secret,
+) -> Result<(), NoMemory>
+    ensures members { OnOk result (members_view members.new.entries
+        ≡ with_member (codes "sharedSecret") (string secret.now) (members_view members.old.entries)) }
+    ensures sound { OnOk result (is_secret secret.now ≡ true) }
+{
+    put_text(members, alloc, "sharedSecret", secret.as_str())
+}
+
+/// Adds how a recipient understood the offer that it took. The members are added from the last key on.
+fn put_accepted(
+    members: &mut Map<String, Value>,
+    alloc: Global,
+    secret: &Secret,
+    owner: &Option<Address>,
+    with: &Option<Address>,
+    perms: Option<Perms>,
+) -> Result<(), NoMemory>
+    ensures members { OnOk result (members_view members.new.entries
+        ≡ written.put_if (codes "owner") (written.data_if written.address_data owner.now)
+        (written.put_if (codes "permissions") (written.data_if written.perms_data perms)
+        (written.put_if (codes "shareWith") (written.data_if written.address_data with.now)
+        (with_member (codes "sharedSecret") (string secret.now) (members_view members.old.entries))))) }
+    ensures sound { OnOk result ((is_secret secret.now ≡ true) × AddressIf owner.now × AddressIf with.now × PermsIf perms) }
+{
+    put_secret(members, alloc, secret)?;
+    put_address_if(members, alloc, "shareWith", with)?;
+    put_perms_if(members, alloc, "permissions", perms)?;
+    put_address_if(members, alloc, "owner", owner)
+}
+
+/// How a recipient understood the offer that it took.
 #[tactic(auto, using(crate::proofs::WrittenLaws::accepted_in_order))]
 fn accepted_value(
     alloc: Global,
@@ -71,17 +133,35 @@ fn accepted_value(
     ensures value { IfOk result (λ v. view v ≡ object (written.accepted_members secret.now owner.now with.now perms)) }
     ensures sound { IfOk result (λ _. (is_secret secret.now ≡ true) × AddressIf owner.now × AddressIf with.now × PermsIf perms) }
 {
-    let mut members = secret_members(alloc, secret)?;
-    let with = address_if(alloc, with)?;
-    put_if(&mut members, alloc, "shareWith", with)?;
-    let perms = perms_if(alloc, perms)?;
-    put_if(&mut members, alloc, "permissions", perms)?;
-    let owner = address_if(alloc, owner)?;
-    put_if(&mut members, alloc, "owner", owner)?;
-    Ok(Value::Object(members))
+    let mut members = Map::new(alloc);
+    let added = put_accepted(&mut members, alloc, secret, owner, with, perms);
+    object_of(members, added)
 }
 
-/// A recipient's request. The members are added from the last key on.
+/// Adds a recipient's request. The members are added from the last key on.
+fn put_request(
+    members: &mut Map<String, Value>,
+    alloc: Global,
+    secret: &Secret,
+    with: &Address,
+    sender_id: &SenderId,
+    perms: Option<Perms>,
+) -> Result<(), NoMemory>
+    ensures members { OnOk result (members_view members.new.entries
+        ≡ written.put_if (codes "permissions") (written.data_if written.perms_data perms)
+        (with_member (codes "senderId") (string sender_id.now)
+        (with_member (codes "shareWith") (written.address_data with.now)
+        (with_member (codes "sharedSecret") (string secret.now) (members_view members.old.entries))))) }
+    ensures sound { OnOk result ((is_secret secret.now ≡ true) × ReadsAsItself with.now
+        × (is_sender_id sender_id.now ≡ true) × PermsIf perms) }
+{
+    put_secret(members, alloc, secret)?;
+    put_address(members, alloc, "shareWith", with)?;
+    put_text(members, alloc, "senderId", sender_id.as_str())?;
+    put_perms_if(members, alloc, "permissions", perms)
+}
+
+/// A recipient's request.
 #[tactic(auto, using(crate::proofs::WrittenLaws::request_in_order))]
 fn request_value(
     alloc: Global,
@@ -94,14 +174,29 @@ fn request_value(
     ensures sound { IfOk result (λ _. (is_secret secret.now ≡ true) × ReadsAsItself with.now
         × (is_sender_id sender_id.now ≡ true) × PermsIf perms) }
 {
-    let mut members = secret_members(alloc, secret)?;
-    let with = address_value(alloc, with)?;
-    put(&mut members, alloc, "shareWith", with)?;
-    let sender_id = Value::try_from_str(alloc, sender_id.as_str())?;
-    put(&mut members, alloc, "senderId", sender_id)?;
-    let perms = perms_if(alloc, perms)?;
-    put_if(&mut members, alloc, "permissions", perms)?;
-    Ok(Value::Object(members))
+    let mut members = Map::new(alloc);
+    let added = put_request(&mut members, alloc, secret, with, sender_id, perms);
+    object_of(members, added)
+}
+
+/// Adds a change of permissions. The members are added from the last key on.
+fn put_change(
+    members: &mut Map<String, Value>,
+    alloc: Global,
+    secret: &Secret,
+    serial: u32,
+    perms: Perms,
+) -> Result<(), NoMemory>
+    ensures members { OnOk result (members_view members.new.entries
+        ≡ with_member (codes "permissions") (written.perms_data perms)
+        (with_member (codes "serial") (number (unsigned serial))
+        (with_member (codes "sharedSecret") (string secret.now) (members_view members.old.entries)))) }
+    ensures sound { OnOk result ((is_secret secret.now ≡ true) × (nat_le serial 4294967295 ≡ true)
+        × (is_any perms ≡ true)) }
+{
+    put_secret(members, alloc, secret)?;
+    put(members, alloc, "serial", Value::from(serial))?;
+    put_perms(members, alloc, "permissions", perms)
 }
 
 /// A change of permissions.
@@ -115,17 +210,23 @@ fn change_value(
     ensures sound { IfOk result (λ _. (is_secret secret.now ≡ true) × (nat_le serial 4294967295 ≡ true)
         × (is_any perms ≡ true)) }
 {
-    let perms = perms_value(alloc, perms)?;
-    let value = json!(in alloc; {
-        "permissions": perms,
-        "serial": serial,
-        "sharedSecret": secret.as_str()
-    })?;
-    Ok(value)
+    let mut members = Map::new(alloc);
+    let added = put_change(&mut members, alloc, secret, serial, perms);
+    object_of(members, added)
+}
+
+/// The secret alone.
+fn plain_value(alloc: Global, secret: &Secret) -> Result<Value, NoMemory>
+    ensures value { IfOk result (λ v. view v ≡ object (written.secret_member secret.now)) }
+    ensures sound { IfOk result (λ _. is_secret secret.now ≡ true) }
+{
+    let mut members = Map::new(alloc);
+    let added = put_secret(&mut members, alloc, secret);
+    object_of(members, added)
 }
 
 /// A notification that has the secret alone.
-fn plain_value(
+fn plain_notice(
     alloc: Global,
     event: &str,
     id: &ProviderId,
@@ -134,9 +235,55 @@ fn plain_value(
     ensures value { IfOk result (λ v. view v ≡ written.told_data event.now id.now (object (written.secret_member secret.now))) }
     ensures sound { IfOk result (λ _. HasMarks id.now secret.now) }
 {
-    let members = secret_members(alloc, secret)?;
-    let value = told_value(alloc, event, id, Value::Object(members))?;
-    Ok(value)
+    let notification = plain_value(alloc, secret)?;
+    told_value(alloc, event, id, notification)
+}
+
+/// A notification that the recipient took the share.
+fn accepted_notice(
+    alloc: Global,
+    id: &ProviderId,
+    secret: &Secret,
+    owner: &Option<Address>,
+    with: &Option<Address>,
+    perms: Option<Perms>,
+) -> Result<Value, NoMemory>
+    ensures value { IfOk result (λ v. view v ≡ written.notice_data (Accepted id.now secret.now owner.now with.now perms)) }
+    ensures sound { IfOk result (λ _. IsNotice (Accepted id.now secret.now owner.now with.now perms)) }
+{
+    let notification = accepted_value(alloc, secret, owner, with, perms)?;
+    told_value(alloc, "SHARE_ACCEPTED", id, notification)
+}
+
+/// A notification that asks to share with another.
+fn request_notice(
+    alloc: Global,
+    id: &ProviderId,
+    secret: &Secret,
+    with: &Address,
+    sender_id: &SenderId,
+    perms: Option<Perms>,
+) -> Result<Value, NoMemory>
+    ensures value { IfOk result (λ v. view v ≡ written.notice_data (ReshareRequest id.now secret.now with.now sender_id.now perms)) }
+    ensures sound { IfOk result (λ _. IsNotice (ReshareRequest id.now secret.now with.now sender_id.now perms)) }
+{
+    let notification = request_value(alloc, secret, with, sender_id, perms)?;
+    told_value(alloc, "REQUEST_RESHARE", id, notification)
+}
+
+/// A notification that permissions changed.
+fn changed_notice(
+    alloc: Global,
+    id: &ProviderId,
+    secret: &Secret,
+    serial: u32,
+    perms: Perms,
+) -> Result<Value, NoMemory>
+    ensures value { IfOk result (λ v. view v ≡ written.notice_data (Changed id.now secret.now serial perms)) }
+    ensures sound { IfOk result (λ _. IsNotice (Changed id.now secret.now serial perms)) }
+{
+    let notification = change_value(alloc, secret, serial, perms)?;
+    told_value(alloc, "RESHARE_CHANGE_PERMISSION", id, notification)
 }
 
 fn notice_value(alloc: Global, v: &Notice) -> Result<Value, NoMemory>
@@ -150,34 +297,22 @@ fn notice_value(alloc: Global, v: &Notice) -> Result<Value, NoMemory>
             owner,
             with,
             perms,
-        } => {
-            let members = accepted_value(alloc, secret, owner, with, *perms)?;
-            let value = told_value(alloc, "SHARE_ACCEPTED", id, members)?;
-            Ok(value)
-        }
-        Notice::Declined { id, secret } => plain_value(alloc, "SHARE_DECLINED", id, secret),
-        Notice::Unshared { id, secret } => plain_value(alloc, "SHARE_UNSHARED", id, secret),
+        } => accepted_notice(alloc, id, secret, owner, with, *perms),
+        Notice::Declined { id, secret } => plain_notice(alloc, "SHARE_DECLINED", id, secret),
+        Notice::Unshared { id, secret } => plain_notice(alloc, "SHARE_UNSHARED", id, secret),
         Notice::ReshareRequest {
             id,
             secret,
             with,
             sender_id,
             perms,
-        } => {
-            let members = request_value(alloc, secret, with, sender_id, *perms)?;
-            let value = told_value(alloc, "REQUEST_RESHARE", id, members)?;
-            Ok(value)
-        }
-        Notice::ReshareUndo { id, secret } => plain_value(alloc, "RESHARE_UNDO", id, secret),
+        } => request_notice(alloc, id, secret, with, sender_id, *perms),
+        Notice::ReshareUndo { id, secret } => plain_notice(alloc, "RESHARE_UNDO", id, secret),
         Notice::Changed {
             id,
             secret,
             serial,
             perms,
-        } => {
-            let members = change_value(alloc, secret, *serial, *perms)?;
-            let value = told_value(alloc, "RESHARE_CHANGE_PERMISSION", id, members)?;
-            Ok(value)
-        }
+        } => changed_notice(alloc, id, secret, *serial, *perms),
     }
 }

@@ -1,12 +1,12 @@
 //! JSON values of what several records have, and a JSON value as bytes.
 
-ghost use Rattle.std.specs.Prelude.{◌≡◌, ◌≤◌, ◌++◌, map, option_map, Some, IfOk, OnOk, true, false};
-ghost use Rattle.serde_json.specs.Data.{string, put as with_member};
+ghost use Rattle.std.specs.Prelude.{◌≡◌, ◌≤◌, ◌++◌, map, option_map, Some, IfOk, OnOk, IsOk, true, false};
+ghost use Rattle.serde_json.specs.Data.{string, object, put as with_member};
 ghost use Rattle.serde_json.specs.Data.{depth};
 ghost use Rattle.serde_json.specs.View.{view, members_view};
 ghost use Rattle.serde_json.specs.Written.{compact_text, has_float};
 ghost use Rattle.ocm_json.specs.Json.{json_of};
-ghost use Rattle.ocm_types.specs.Rights.{is_any, word_if};
+ghost use Rattle.ocm_types.specs.Rights.{is_any, word_if, words_of};
 ghost use Rattle.ocm_types.specs.Texts.{has_length};
 ghost use Rattle.ocm_records.specs.Kinds.{most_bytes};
 ghost use Rattle.ocm_records.specs.Sound.{ReadsAsItself, AddressIf, PermsIf};
@@ -44,16 +44,25 @@ fn push_word(
     Ok(())
 }
 
+/// Adds the words of the rights that are held, in the order read, write, share.
+fn push_words(alloc: Global, words: &mut Vec<Value>, perms: Perms) -> Result<(), AllocError>
+    ensures words { OnOk result (map view words.new.items ≡ map view words.old.items
+        ++ map string (words_of perms)) }
+    ensures sound { OnOk result (is_any perms ≡ true) }
+{
+    let rights = perms.rights();
+    push_word(alloc, words, rights.read, "read")?;
+    push_word(alloc, words, rights.write, "write")?;
+    push_word(alloc, words, rights.share, "share")
+}
+
 /// Permissions as the list of their words.
-pub fn perms_value(alloc: Global, perms: Perms) -> Result<Value, NoMemory>
+fn perms_value(alloc: Global, perms: Perms) -> Result<Value, NoMemory>
     ensures value { IfOk result (λ v. view v ≡ written.perms_data perms) }
     ensures sound { IfOk result (λ _. is_any perms ≡ true) }
 {
-    let rights = perms.rights();
     let mut words = Vec::new(alloc);
-    push_word(alloc, &mut words, rights.read, "read")?;
-    push_word(alloc, &mut words, rights.write, "write")?;
-    push_word(alloc, &mut words, rights.share, "share")?;
+    push_words(alloc, &mut words, perms)?;
     Ok(Value::Array(words))
 }
 
@@ -64,16 +73,21 @@ fn text_fits(text: &str)
     let _length = text.len();
 }
 
-/// An address as its text.
-pub fn address_value(alloc: Global, address: &Address) -> Result<Value, NoMemory>
-    ensures value { IfOk result (λ v. view v ≡ written.address_data address.now) }
-    ensures sound { IfOk result (λ _. ReadsAsItself address.now) }
+/// The members as an object, where all were added.
+pub fn object_of(
+    members: Map<String, Value>,
+    added: Result<(), NoMemory>,
+) -> Result<Value, NoMemory>
+    ensures value { IfOk result (λ v. view v ≡ object (members_view members.entries)) }
+    ensures added { OnOk result (IsOk added) }
 {
-    address_reads_its_text(address);
-    let text = address.text(alloc)?;
-    text_fits(text.as_str());
-    let value = Value::try_from_str(alloc, text.as_str())?;
-    Ok(value)
+    match added {
+        Ok(()) => Ok(Value::Object(members)),
+        Err(fault) => {
+            drop(members);
+            Err(fault)
+        }
+    }
 }
 
 /// Adds a text as a member.
@@ -107,30 +121,69 @@ pub fn put_if(
     Ok(())
 }
 
-/// An address, where there is one.
-pub fn address_if(alloc: Global, address: &Option<Address>) -> Result<Option<Value>, NoMemory>
-    ensures value { IfOk result (λ o. option_map view o ≡ written.data_if written.address_data address.now) }
-    ensures sound { IfOk result (λ _. AddressIf address.now) }
+/// Adds an address as a member, as its text.
+pub fn put_address(
+    members: &mut Map<String, Value>,
+    alloc: Global,
+    key: &str,
+    address: &Address,
+) -> Result<(), NoMemory>
+    ensures members { OnOk result (members_view members.new.entries
+        ≡ with_member key.now (written.address_data address.now) (members_view members.old.entries)) }
+    ensures sound { OnOk result (ReadsAsItself address.now) }
+{
+    address_reads_its_text(address);
+    let text = address.text(alloc)?;
+    text_fits(text.as_str());
+    put_text(members, alloc, key, text.as_str())
+}
+
+/// Adds an address as a member, where there is one.
+pub fn put_address_if(
+    members: &mut Map<String, Value>,
+    alloc: Global,
+    key: &str,
+    address: &Option<Address>,
+) -> Result<(), NoMemory>
+    ensures members { OnOk result (members_view members.new.entries
+        ≡ written.put_if key.now (written.data_if written.address_data address.now) (members_view members.old.entries)) }
+    ensures sound { OnOk result (AddressIf address.now) }
 {
     match address {
-        Some(address) => {
-            let value = address_value(alloc, address)?;
-            Ok(Some(value))
-        }
-        None => Ok(None),
+        Some(address) => put_address(members, alloc, key, address),
+        None => Ok(()),
     }
 }
 
-/// Permissions, where there are any.
-pub fn perms_if(alloc: Global, perms: Option<Perms>) -> Result<Option<Value>, NoMemory>
-    ensures value { IfOk result (λ o. option_map view o ≡ written.data_if written.perms_data perms) }
-    ensures sound { IfOk result (λ _. PermsIf perms) }
+/// Adds permissions as a member, as the list of their words.
+pub fn put_perms(
+    members: &mut Map<String, Value>,
+    alloc: Global,
+    key: &str,
+    perms: Perms,
+) -> Result<(), NoMemory>
+    ensures members { OnOk result (members_view members.new.entries
+        ≡ with_member key.now (written.perms_data perms) (members_view members.old.entries)) }
+    ensures sound { OnOk result (is_any perms ≡ true) }
+{
+    let words = perms_value(alloc, perms)?;
+    put(members, alloc, key, words)?;
+    Ok(())
+}
+
+/// Adds permissions as a member, where there are any.
+pub fn put_perms_if(
+    members: &mut Map<String, Value>,
+    alloc: Global,
+    key: &str,
+    perms: Option<Perms>,
+) -> Result<(), NoMemory>
+    ensures members { OnOk result (members_view members.new.entries
+        ≡ written.put_if key.now (written.data_if written.perms_data perms) (members_view members.old.entries)) }
+    ensures sound { OnOk result (PermsIf perms) }
 {
     match perms {
-        Some(perms) => {
-            let value = perms_value(alloc, perms)?;
-            Ok(Some(value))
-        }
-        None => Ok(None),
+        Some(perms) => put_perms(members, alloc, key, perms),
+        None => Ok(()),
     }
 }

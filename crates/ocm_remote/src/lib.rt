@@ -8,8 +8,6 @@ mod laws;
 mod remotes;
 mod tasks;
 mod tellings;
-#[cfg(test)]
-mod tests;
 mod verbs;
 
 pub use ends::End;

@@ -1,5 +1,6 @@
 pub mod Lines
 pub mod Words
+pub mod Several
 pub mod Gives
 pub mod Events
 pub mod Bodies

@@ -1,12 +1,12 @@
 //! What a line writes for the bytes of a file.
 
-ghost use Rattle.std.specs.Prelude.{◌<◌, Some, IfOk};
+ghost use Rattle.std.specs.Prelude.{◌<◌, Some, IfOk, option_and_then, option_copied};
 ghost use Rattle.ocm_script.specs.Bodies as bodies;
 ghost use Rattle.ocm_script.specs.Gives.{Gives};
 
 use crate::events::Body;
 use crate::faults::LineFault;
-use crate::words::{after, digits_word, number_word};
+use crate::words::{after, digits_word, number_word, remaining};
 use ocm_base::Bytes;
 use std::alloc::Global;
 
@@ -64,7 +64,7 @@ fn fill_body(filled: &[u8]) -> Result<Body, LineFault>
 
 /// The body that the rest of a line writes.
 #[tactic(auto, unfolding(crate::specs::Bodies::body_of))]
-pub fn body_of(alloc: Global, rest: &[u8]) -> Result<Body, LineFault>
+fn body_of(alloc: Global, rest: &[u8]) -> Result<Body, LineFault>
     ensures { Gives (λ x. x) result (bodies.body_of rest.now) }
 {
     if let Some(text) = after(rest, b"text:") {
@@ -76,4 +76,12 @@ pub fn body_of(alloc: Global, rest: &[u8]) -> Result<Body, LineFault>
     } else {
         Err(LineFault::Bad)
     }
+}
+
+/// The body that what follows a space writes.
+pub fn body_behind(alloc: Global, rest: Option<&[u8]>) -> Result<Body, LineFault>
+    ensures { Gives (λ x. x) result (option_and_then bodies.body_of (option_copied rest.entry)) }
+{
+    let bytes = remaining(rest)?;
+    body_of(alloc, bytes)
 }

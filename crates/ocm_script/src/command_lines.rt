@@ -7,29 +7,26 @@ ghost use Rattle.ocm_script.specs.Gives.{Gives};
 
 use crate::events::Event;
 use crate::faults::LineFault;
-use crate::next_words::{next_address, next_host, next_number, next_path, next_secret};
-use crate::words::{ended, fresh_word, perms_if_word, perms_word, word};
+use crate::last_words::{
+    last_address_and_perms, last_number, last_number_and_perms, last_numbers, last_perms_and_fresh,
+};
+use crate::next_words::{next_holder, next_number, next_path_and_address};
+use crate::words::ended;
 use ocm_base::and;
 use ocm_entry::Cmd;
 use ocm_types::Host;
 use std::alloc::Global;
 
 /// `share HOST KEY PATH ADDRESS PERMISSIONS FRESH`: a share, with what its secret is drawn from.
-#[tactic(auto, unfolding(crate::specs::Forms::share_line, crate::specs::Words::next))]
+#[tactic(auto, unfolding(crate::specs::Forms::share_line, crate::specs::Several::next_two, crate::specs::Several::last, crate::specs::Several::last_two))]
 pub fn share_line(alloc: Global, named: &[Host], rest: Option<&[u8]>) -> Result<Event, LineFault>
     ensures exact { Gives (λ x. x) result (forms.share_line named.now (option_copied rest.entry)) }
     ensures short { IfOk result (λ event. IsTrue (has_short_paths event)) }
 {
-    let (host, rest) = next_host(named, rest)?;
-    let (read, (key, rest)) = and(host, next_secret(alloc, rest))?;
-    let (read, (path, rest)) = and((read, key), next_path(alloc, rest))?;
-    let (read, (with, rest)) = and((read, path), next_address(alloc, rest))?;
-    let (read, (perms, rest)) = and((read, with), word(rest))?;
-    let (read, perms) = and(read, perms_word(perms))?;
-    let (read, (fresh, rest)) = and(read, word(rest))?;
-    let (read, fresh) = and(read, fresh_word(fresh))?;
-    let (read, ()) = and(read, ended(rest))?;
-    let (((host, key), path), with) = read;
+    let (holder, rest) = next_holder(alloc, named, rest)?;
+    let (holder, ((path, with), rest)) = and(holder, next_path_and_address(alloc, rest))?;
+    let (read, (perms, fresh)) = and((holder, path, with), last_perms_and_fresh(rest))?;
+    let ((host, key), path, with) = read;
     Ok(Event::Local {
         host,
         key,
@@ -43,15 +40,13 @@ pub fn share_line(alloc: Global, named: &[Host], rest: Option<&[u8]>) -> Result<
 }
 
 /// `unshare HOST KEY ID`: a share is closed.
-#[tactic(auto, unfolding(crate::specs::Forms::unshare_line))]
+#[tactic(auto, unfolding(crate::specs::Forms::unshare_line, crate::specs::Several::next_two, crate::specs::Several::last))]
 pub fn unshare_line(alloc: Global, named: &[Host], rest: Option<&[u8]>) -> Result<Event, LineFault>
     ensures exact { Gives (λ x. x) result (forms.unshare_line named.now (option_copied rest.entry)) }
     ensures short { IfOk result (λ event. IsTrue (has_short_paths event)) }
 {
-    let (host, rest) = next_host(named, rest)?;
-    let (read, (key, rest)) = and(host, next_secret(alloc, rest))?;
-    let (read, (id, rest)) = and((read, key), next_number(rest))?;
-    let ((host, key), ()) = and(read, ended(rest))?;
+    let (holder, rest) = next_holder(alloc, named, rest)?;
+    let ((host, key), id) = and(holder, last_number(rest))?;
     Ok(Event::Local {
         host,
         key,
@@ -60,18 +55,13 @@ pub fn unshare_line(alloc: Global, named: &[Host], rest: Option<&[u8]>) -> Resul
 }
 
 /// `limit HOST KEY ID PERMISSIONS`: a share gets other permissions.
-#[tactic(auto, unfolding(crate::specs::Forms::limit_line, crate::specs::Words::next))]
+#[tactic(auto, unfolding(crate::specs::Forms::limit_line, crate::specs::Several::next_two, crate::specs::Several::last, crate::specs::Several::last_two))]
 pub fn limit_line(alloc: Global, named: &[Host], rest: Option<&[u8]>) -> Result<Event, LineFault>
     ensures exact { Gives (λ x. x) result (forms.limit_line named.now (option_copied rest.entry)) }
     ensures short { IfOk result (λ event. IsTrue (has_short_paths event)) }
 {
-    let (host, rest) = next_host(named, rest)?;
-    let (read, (key, rest)) = and(host, next_secret(alloc, rest))?;
-    let (read, (id, rest)) = and((read, key), next_number(rest))?;
-    let (read, (perms, rest)) = and(read, word(rest))?;
-    let (read, perms) = and(read, perms_word(perms))?;
-    let (read, ()) = and(read, ended(rest))?;
-    let (host, key) = read;
+    let (holder, rest) = next_holder(alloc, named, rest)?;
+    let ((host, key), (id, perms)) = and(holder, last_number_and_perms(rest))?;
     Ok(Event::Local {
         host,
         key,
@@ -80,15 +70,13 @@ pub fn limit_line(alloc: Global, named: &[Host], rest: Option<&[u8]>) -> Result<
 }
 
 /// `accept HOST KEY NUMBER`: a received share is taken.
-#[tactic(auto, unfolding(crate::specs::Forms::accept_line))]
+#[tactic(auto, unfolding(crate::specs::Forms::accept_line, crate::specs::Several::next_two, crate::specs::Several::last))]
 pub fn accept_line(alloc: Global, named: &[Host], rest: Option<&[u8]>) -> Result<Event, LineFault>
     ensures exact { Gives (λ x. x) result (forms.accept_line named.now (option_copied rest.entry)) }
     ensures short { IfOk result (λ event. IsTrue (has_short_paths event)) }
 {
-    let (host, rest) = next_host(named, rest)?;
-    let (read, (key, rest)) = and(host, next_secret(alloc, rest))?;
-    let (read, (number, rest)) = and((read, key), next_number(rest))?;
-    let ((host, key), ()) = and(read, ended(rest))?;
+    let (holder, rest) = next_holder(alloc, named, rest)?;
+    let ((host, key), number) = and(holder, last_number(rest))?;
     Ok(Event::Local {
         host,
         key,
@@ -97,15 +85,13 @@ pub fn accept_line(alloc: Global, named: &[Host], rest: Option<&[u8]>) -> Result
 }
 
 /// `decline HOST KEY NUMBER`: a received share is given back.
-#[tactic(auto, unfolding(crate::specs::Forms::decline_line))]
+#[tactic(auto, unfolding(crate::specs::Forms::decline_line, crate::specs::Several::next_two, crate::specs::Several::last))]
 pub fn decline_line(alloc: Global, named: &[Host], rest: Option<&[u8]>) -> Result<Event, LineFault>
     ensures exact { Gives (λ x. x) result (forms.decline_line named.now (option_copied rest.entry)) }
     ensures short { IfOk result (λ event. IsTrue (has_short_paths event)) }
 {
-    let (host, rest) = next_host(named, rest)?;
-    let (read, (key, rest)) = and(host, next_secret(alloc, rest))?;
-    let (read, (number, rest)) = and((read, key), next_number(rest))?;
-    let ((host, key), ()) = and(read, ended(rest))?;
+    let (holder, rest) = next_holder(alloc, named, rest)?;
+    let ((host, key), number) = and(holder, last_number(rest))?;
     Ok(Event::Local {
         host,
         key,
@@ -114,19 +100,14 @@ pub fn decline_line(alloc: Global, named: &[Host], rest: Option<&[u8]>) -> Resul
 }
 
 /// `reshare HOST KEY NUMBER ADDRESS PERMISSIONS`: a further share is asked for. The permissions may be `-`, for none.
-#[tactic(auto, unfolding(crate::specs::Forms::reshare_line, crate::specs::Words::next))]
+#[tactic(auto, unfolding(crate::specs::Forms::reshare_line, crate::specs::Several::next_two, crate::specs::Several::last, crate::specs::Several::last_two))]
 pub fn reshare_line(alloc: Global, named: &[Host], rest: Option<&[u8]>) -> Result<Event, LineFault>
     ensures exact { Gives (λ x. x) result (forms.reshare_line named.now (option_copied rest.entry)) }
     ensures short { IfOk result (λ event. IsTrue (has_short_paths event)) }
 {
-    let (host, rest) = next_host(named, rest)?;
-    let (read, (key, rest)) = and(host, next_secret(alloc, rest))?;
-    let (read, (number, rest)) = and((read, key), next_number(rest))?;
-    let (read, (with, rest)) = and(read, next_address(alloc, rest))?;
-    let (read, (perms, rest)) = and((read, with), word(rest))?;
-    let (read, perms) = and(read, perms_if_word(perms))?;
-    let (read, ()) = and(read, ended(rest))?;
-    let ((host, key), with) = read;
+    let (holder, rest) = next_holder(alloc, named, rest)?;
+    let (holder, (number, rest)) = and(holder, next_number(rest))?;
+    let ((host, key), (with, perms)) = and(holder, last_address_and_perms(alloc, rest))?;
     Ok(Event::Local {
         host,
         key,
@@ -139,15 +120,13 @@ pub fn reshare_line(alloc: Global, named: &[Host], rest: Option<&[u8]>) -> Resul
 }
 
 /// `undo HOST KEY REQUEST`: a further share is taken back.
-#[tactic(auto, unfolding(crate::specs::Forms::undo_line))]
+#[tactic(auto, unfolding(crate::specs::Forms::undo_line, crate::specs::Several::next_two, crate::specs::Several::last))]
 pub fn undo_line(alloc: Global, named: &[Host], rest: Option<&[u8]>) -> Result<Event, LineFault>
     ensures exact { Gives (λ x. x) result (forms.undo_line named.now (option_copied rest.entry)) }
     ensures short { IfOk result (λ event. IsTrue (has_short_paths event)) }
 {
-    let (host, rest) = next_host(named, rest)?;
-    let (read, (key, rest)) = and(host, next_secret(alloc, rest))?;
-    let (read, (request, rest)) = and((read, key), next_number(rest))?;
-    let ((host, key), ()) = and(read, ended(rest))?;
+    let (holder, rest) = next_holder(alloc, named, rest)?;
+    let ((host, key), request) = and(holder, last_number(rest))?;
     Ok(Event::Local {
         host,
         key,
@@ -156,14 +135,13 @@ pub fn undo_line(alloc: Global, named: &[Host], rest: Option<&[u8]>) -> Result<E
 }
 
 /// `list HOST KEY`: all that the user has.
-#[tactic(auto, unfolding(crate::specs::Forms::list_line))]
+#[tactic(auto, unfolding(crate::specs::Forms::list_line, crate::specs::Several::next_two))]
 pub fn list_line(alloc: Global, named: &[Host], rest: Option<&[u8]>) -> Result<Event, LineFault>
     ensures exact { Gives (λ x. x) result (forms.list_line named.now (option_copied rest.entry)) }
     ensures short { IfOk result (λ event. IsTrue (has_short_paths event)) }
 {
-    let (host, rest) = next_host(named, rest)?;
-    let (read, (key, rest)) = and(host, next_secret(alloc, rest))?;
-    let ((host, key), ()) = and((read, key), ended(rest))?;
+    let (holder, rest) = next_holder(alloc, named, rest)?;
+    let ((host, key), ()) = and(holder, ended(rest))?;
     Ok(Event::Local {
         host,
         key,
@@ -172,16 +150,13 @@ pub fn list_line(alloc: Global, named: &[Host], rest: Option<&[u8]>) -> Result<E
 }
 
 /// `expire HOST KEY ID END`: a share ends at a moment.
-#[tactic(auto, unfolding(crate::specs::Forms::expire_line))]
+#[tactic(auto, unfolding(crate::specs::Forms::expire_line, crate::specs::Several::next_two, crate::specs::Several::last, crate::specs::Several::last_two))]
 pub fn expire_line(alloc: Global, named: &[Host], rest: Option<&[u8]>) -> Result<Event, LineFault>
     ensures exact { Gives (λ x. x) result (forms.expire_line named.now (option_copied rest.entry)) }
     ensures short { IfOk result (λ event. IsTrue (has_short_paths event)) }
 {
-    let (host, rest) = next_host(named, rest)?;
-    let (read, (key, rest)) = and(host, next_secret(alloc, rest))?;
-    let (read, (id, rest)) = and((read, key), next_number(rest))?;
-    let (read, (until, rest)) = and(read, next_number(rest))?;
-    let ((host, key), ()) = and(read, ended(rest))?;
+    let (holder, rest) = next_holder(alloc, named, rest)?;
+    let ((host, key), (id, until)) = and(holder, last_numbers(rest))?;
     Ok(Event::Local {
         host,
         key,

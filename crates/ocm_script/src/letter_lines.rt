@@ -10,8 +10,9 @@ ghost use Rattle.ocm_script.specs.Gives.{Gives};
 
 use crate::events::Event;
 use crate::faults::LineFault;
-use crate::next_words::{next_digits, next_host, next_number};
-use crate::words::{ended, fresh_word, remaining, word};
+use crate::last_words::{last_fresh, last_fresh_and_digits, last_number_and_fresh};
+use crate::next_words::next_host;
+use crate::words::{fresh_word, remaining, word};
 use ocm_base::and;
 use ocm_records::{RecordFault, read_notice, read_offer};
 use ocm_types::{Host, Notice, Offer};
@@ -70,30 +71,24 @@ pub fn notice_line(alloc: Global, named: &[Host], rest: Option<&[u8]>) -> Result
 }
 
 /// `raw HOST FRESH DIGITS`: a connection that sends the bytes of the digits.
-#[tactic(auto, unfolding(crate::specs::Forms::raw_line, crate::specs::Words::next))]
+#[tactic(auto, unfolding(crate::specs::Forms::raw_line, crate::specs::Several::last, crate::specs::Several::last_two))]
 pub fn raw_line(alloc: Global, named: &[Host], rest: Option<&[u8]>) -> Result<Event, LineFault>
     ensures exact { Gives (λ x. x) result (forms.raw_line named.now (option_copied rest.entry)) }
     ensures short { IfOk result (λ event. IsTrue (has_short_paths event)) }
 {
     let (host, rest) = next_host(named, rest)?;
-    let (host, (fresh, rest)) = and(host, word(rest))?;
-    let (host, fresh) = and(host, fresh_word(fresh))?;
-    let (host, (bytes, rest)) = and(host, next_digits(alloc, rest))?;
-    let ((host, bytes), ()) = and((host, bytes), ended(rest))?;
+    let (host, (fresh, bytes)) = and(host, last_fresh_and_digits(alloc, rest))?;
     Ok(Event::Raw { host, fresh, bytes })
 }
 
 /// `deliver` or `lost HOST NUMBER FRESH`: a message is given to the server that it is for.
-#[tactic(auto, unfolding(crate::specs::Forms::deliver_line, crate::specs::Words::next))]
+#[tactic(auto, unfolding(crate::specs::Forms::deliver_line, crate::specs::Several::last, crate::specs::Several::last_two))]
 pub fn deliver_line(named: &[Host], lost: bool, rest: Option<&[u8]>) -> Result<Event, LineFault>
     ensures exact { Gives (λ x. x) result (forms.deliver_line lost named.now (option_copied rest.entry)) }
     ensures short { IfOk result (λ event. IsTrue (has_short_paths event)) }
 {
     let (host, rest) = next_host(named, rest)?;
-    let (host, (number, rest)) = and(host, next_number(rest))?;
-    let (host, (fresh, rest)) = and(host, word(rest))?;
-    let (host, fresh) = and(host, fresh_word(fresh))?;
-    let (host, ()) = and(host, ended(rest))?;
+    let (host, (number, fresh)) = and(host, last_number_and_fresh(rest))?;
     Ok(Event::Deliver {
         host,
         number,
@@ -103,14 +98,12 @@ pub fn deliver_line(named: &[Host], lost: bool, rest: Option<&[u8]>) -> Result<E
 }
 
 /// `pump HOST FRESH`: all messages that are due are given to the servers that they are for.
-#[tactic(auto, unfolding(crate::specs::Forms::pump_line, crate::specs::Words::next))]
+#[tactic(auto, unfolding(crate::specs::Forms::pump_line, crate::specs::Several::last))]
 pub fn pump_line(named: &[Host], rest: Option<&[u8]>) -> Result<Event, LineFault>
     ensures exact { Gives (λ x. x) result (forms.pump_line named.now (option_copied rest.entry)) }
     ensures short { IfOk result (λ event. IsTrue (has_short_paths event)) }
 {
     let (host, rest) = next_host(named, rest)?;
-    let (host, (fresh, rest)) = and(host, word(rest))?;
-    let (host, fresh) = and(host, fresh_word(fresh))?;
-    let (host, ()) = and(host, ended(rest))?;
+    let (host, fresh) = and(host, last_fresh(rest))?;
     Ok(Event::Pump { host, fresh })
 }

@@ -49,6 +49,7 @@ mod events;
 mod faults;
 mod file_lines;
 mod forms;
+mod last_words;
 mod letter_lines;
 mod lines;
 mod next_words;

@@ -1,17 +1,16 @@
 //! The next word of a line, as one of a kind, and what follows it.
 
-ghost use Rattle.std.specs.Prelude.{IfOk, IsTrue, option_copied};
+ghost use Rattle.std.specs.Prelude.{◌&&◌, IfOk, IsTrue, option_copied};
 ghost use Rattle.ocm_entry.specs.Proper.{is_short};
+ghost use Rattle.ocm_script.specs.Several.{next_two};
 ghost use Rattle.ocm_script.specs.Words as words;
 ghost use Rattle.ocm_script.specs.Gives.{Gives};
 
 use crate::faults::LineFault;
 use crate::words::{
-    address_word, crash_word, digits_word, known, name_word, new_host, number_word, overwrite_word,
-    path_word, secret_word, word,
+    address_word, known, name_word, new_host, number_word, path_word, secret_word, word,
 };
-use ocm_base::Bytes;
-use ocm_disk::Crash;
+use ocm_base::and;
 use ocm_path::Path;
 use ocm_types::{Address, Host, Name, Secret};
 use std::alloc::Global;
@@ -58,13 +57,28 @@ pub fn next_name(alloc: Global, rest: Option<&[u8]>) -> Result<(Name, Option<&[u
 
 /// The next word as a secret or a key.
 #[tactic(auto, unfolding(crate::specs::Words::next))]
-pub fn next_secret(alloc: Global, rest: Option<&[u8]>) -> Result<(Secret, Option<&[u8]>), LineFault>
+fn next_secret(alloc: Global, rest: Option<&[u8]>) -> Result<(Secret, Option<&[u8]>), LineFault>
     ensures { Gives (λ x. (x.0, option_copied x.1)) result
         (words.next words.secret_word (option_copied rest.entry)) }
 {
     let (word, rest) = word(rest)?;
     let secret = secret_word(alloc, word)?;
     Ok((secret, rest))
+}
+
+/// The next two words as a host that is named before, and a secret or a key.
+#[tactic(auto, unfolding(crate::specs::Several::next_two))]
+pub fn next_holder<'a>(
+    alloc: Global,
+    named: &[Host],
+    rest: Option<&'a [u8]>,
+) -> Result<((Host, Secret), Option<&'a [u8]>), LineFault>
+    ensures { Gives (λ x. (x.0, option_copied x.1)) result
+        (next_two (words.known named.now) words.secret_word (option_copied rest.entry)) }
+{
+    let (host, rest) = next_host(named, rest)?;
+    let (host, (secret, rest)) = and(host, next_secret(alloc, rest))?;
+    Ok(((host, secret), rest))
 }
 
 /// The next word as a number.
@@ -104,35 +118,32 @@ pub fn next_address(
     Ok((address, rest))
 }
 
-/// The next word as whether what stands at the target is replaced.
-#[tactic(auto, unfolding(crate::specs::Words::next))]
-pub fn next_overwrite(rest: Option<&[u8]>) -> Result<(bool, Option<&[u8]>), LineFault>
-    ensures { Gives (λ x. (x.0, option_copied x.1)) result
-        (words.next words.overwrite_word (option_copied rest.entry)) }
+/// The next two words as a path and an address.
+#[tactic(auto, unfolding(crate::specs::Several::next_two))]
+pub fn next_path_and_address(
+    alloc: Global,
+    rest: Option<&[u8]>,
+) -> Result<((Path, Address), Option<&[u8]>), LineFault>
+    ensures exact { Gives (λ x. (x.0, option_copied x.1)) result
+        (next_two words.path_word words.address_word (option_copied rest.entry)) }
+    ensures short { IfOk result (λ x. IsTrue (is_short x.0.0)) }
 {
-    let (word, rest) = word(rest)?;
-    let overwrite = overwrite_word(word)?;
-    Ok((overwrite, rest))
+    let (path, rest) = next_path(alloc, rest)?;
+    let (path, (address, rest)) = and(path, next_address(alloc, rest))?;
+    Ok(((path, address), rest))
 }
 
-/// The next word as what a crash leaves.
-#[tactic(auto, unfolding(crate::specs::Words::next))]
-pub fn next_crash(rest: Option<&[u8]>) -> Result<(Crash, Option<&[u8]>), LineFault>
-    ensures { Gives (λ x. (x.0, option_copied x.1)) result
-        (words.next words.crash_word (option_copied rest.entry)) }
+/// The next two words as paths.
+#[tactic(auto, unfolding(crate::specs::Several::next_two))]
+pub fn next_paths(
+    alloc: Global,
+    rest: Option<&[u8]>,
+) -> Result<((Path, Path), Option<&[u8]>), LineFault>
+    ensures exact { Gives (λ x. (x.0, option_copied x.1)) result
+        (next_two words.path_word words.path_word (option_copied rest.entry)) }
+    ensures short { IfOk result (λ x. IsTrue (is_short x.0.0 && is_short x.0.1)) }
 {
-    let (word, rest) = word(rest)?;
-    let left = crash_word(word)?;
-    Ok((left, rest))
-}
-
-/// The next word as the bytes that digits spell.
-#[tactic(auto, unfolding(crate::specs::Words::next))]
-pub fn next_digits(alloc: Global, rest: Option<&[u8]>) -> Result<(Bytes, Option<&[u8]>), LineFault>
-    ensures { Gives (λ x. (x.0, option_copied x.1)) result
-        (words.next words.digits_word (option_copied rest.entry)) }
-{
-    let (word, rest) = word(rest)?;
-    let bytes = digits_word(alloc, word)?;
-    Ok((bytes, rest))
+    let (from, rest) = next_path(alloc, rest)?;
+    let (from, (to, rest)) = and(from, next_path(alloc, rest))?;
+    Ok(((from, to), rest))
 }

@@ -10,7 +10,7 @@ use crate::events::Event;
 use crate::faults::{LineFault, ScriptFault};
 use crate::forms::event_of;
 use crate::lines::{count_lines, first_line};
-use ocm_base::{List, NoMemory, and};
+use ocm_base::{List, NoMemory};
 use ocm_limits::MOST_LINES;
 use ocm_types::Host;
 use std::alloc::Global;
@@ -47,8 +47,8 @@ fn add_event(events: &mut List<Event>, named: &mut List<Host>, event: Event) -> 
     ensures named { OnOk result (named.new ≡ script.named_after named.old event) }
 {
     let done = name_node(named, &event);
-    let (event, ()) = and(event, done)?;
-    events.push(event)
+    events.push(event)?;
+    done
 }
 
 /// The events of at most so many lines.

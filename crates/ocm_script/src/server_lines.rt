@@ -7,8 +7,9 @@ ghost use Rattle.ocm_script.specs.Gives.{Gives};
 
 use crate::events::Event;
 use crate::faults::LineFault;
-use crate::next_words::{next_crash, next_host, next_name, next_new_host, next_number};
-use crate::words::{ended, fresh_word, word};
+use crate::last_words::{last_crash, last_name_and_fresh, last_number};
+use crate::next_words::{next_host, next_new_host};
+use crate::words::ended;
 use ocm_base::and;
 use ocm_disk::Crash;
 use ocm_types::Host;
@@ -26,52 +27,46 @@ pub fn node_line(alloc: Global, named: &[Host], rest: Option<&[u8]>) -> Result<E
 }
 
 /// `user HOST NAME FRESH`: a user, with what its key is drawn from.
-#[tactic(auto, unfolding(crate::specs::Forms::user_line, crate::specs::Words::next))]
+#[tactic(auto, unfolding(crate::specs::Forms::user_line, crate::specs::Several::last, crate::specs::Several::last_two))]
 pub fn user_line(alloc: Global, named: &[Host], rest: Option<&[u8]>) -> Result<Event, LineFault>
     ensures exact { Gives (λ x. x) result (forms.user_line named.now (option_copied rest.entry)) }
     ensures short { IfOk result (λ event. IsTrue (has_short_paths event)) }
 {
     let (host, rest) = next_host(named, rest)?;
-    let (read, (name, rest)) = and(host, next_name(alloc, rest))?;
-    let (read, (fresh, rest)) = and((read, name), word(rest))?;
-    let (read, fresh) = and(read, fresh_word(fresh))?;
-    let ((host, name), ()) = and(read, ended(rest))?;
+    let (host, (name, fresh)) = and(host, last_name_and_fresh(alloc, rest))?;
     Ok(Event::User { host, name, fresh })
 }
 
 /// `clock HOST SECONDS`: the time is told to the server.
-#[tactic(auto, unfolding(crate::specs::Forms::clock_line))]
+#[tactic(auto, unfolding(crate::specs::Forms::clock_line, crate::specs::Several::last))]
 pub fn clock_line(named: &[Host], rest: Option<&[u8]>) -> Result<Event, LineFault>
     ensures exact { Gives (λ x. x) result (forms.clock_line named.now (option_copied rest.entry)) }
     ensures short { IfOk result (λ event. IsTrue (has_short_paths event)) }
 {
     let (host, rest) = next_host(named, rest)?;
-    let (host, (clock, rest)) = and(host, next_number(rest))?;
-    let (host, ()) = and(host, ended(rest))?;
+    let (host, clock) = and(host, last_number(rest))?;
     Ok(Event::Clock { host, clock })
 }
 
 /// `fuse HOST CALLS`: the server's disk fails once it was called so often.
-#[tactic(auto, unfolding(crate::specs::Forms::fuse_line))]
+#[tactic(auto, unfolding(crate::specs::Forms::fuse_line, crate::specs::Several::last))]
 pub fn fuse_line(named: &[Host], rest: Option<&[u8]>) -> Result<Event, LineFault>
     ensures exact { Gives (λ x. x) result (forms.fuse_line named.now (option_copied rest.entry)) }
     ensures short { IfOk result (λ event. IsTrue (has_short_paths event)) }
 {
     let (host, rest) = next_host(named, rest)?;
-    let (host, (calls, rest)) = and(host, next_number(rest))?;
-    let (host, ()) = and(host, ended(rest))?;
+    let (host, calls) = and(host, last_number(rest))?;
     Ok(Event::Fuse { host, calls })
 }
 
 /// `crash HOST LEFT`: the server's disk crashes, and it is loaded again.
-#[tactic(auto, unfolding(crate::specs::Forms::crash_line))]
+#[tactic(auto, unfolding(crate::specs::Forms::crash_line, crate::specs::Several::last))]
 pub fn crash_line(named: &[Host], rest: Option<&[u8]>) -> Result<Event, LineFault>
     ensures exact { Gives (λ x. x) result (forms.crash_line named.now (option_copied rest.entry)) }
     ensures short { IfOk result (λ event. IsTrue (has_short_paths event)) }
 {
     let (host, rest) = next_host(named, rest)?;
-    let (host, (left, rest)) = and(host, next_crash(rest))?;
-    let (host, ()) = and(host, ended(rest))?;
+    let (host, left) = and(host, last_crash(rest))?;
     Ok(Event::Crash { host, left })
 }
 

@@ -6,8 +6,12 @@ use ocm_pump::Exchange;
 use ocm_server::{Back, Ended, MemConn, Served};
 use std::alloc::Global;
 
-/// How a server ended.
-pub fn served_told(alloc: Global, served: Served) -> Option<String> {
+/// Adds how a server ended.
+pub fn add_served(alloc: Global, text: &mut String, served: Served) -> Option<()> {
+    add(text, served_told(alloc, served))
+}
+
+fn served_told(alloc: Global, served: Served) -> Option<String> {
     match served {
         Served::OtherHost { found } => host_told(alloc, found),
         Served::Ended { calls, own } => format!(in alloc; "ended {calls} {own}").ok(),
@@ -26,7 +30,7 @@ fn host_told(alloc: Global, found: Bytes) -> Option<String> {
 }
 
 /// Adds what is told of each worker. The named pages are those of its first connection.
-pub fn add_workers(alloc: Global, text: &mut String, workers: &[Hand], pages: &str) -> Option<()> {
+pub fn add_worked(alloc: Global, text: &mut String, workers: &[Hand], pages: &str) -> Option<()> {
     for worker in workers {
         add_worker(alloc, text, worker, pages)?;
     }

@@ -34,30 +34,25 @@ pub fn bytes_of(alloc: Global, row: &str) -> Option<Bytes> {
 
 /// A connection that gives the bytes of a row.
 pub fn conn_of(alloc: Global, row: &str, failing: Failing) -> Option<MemConn> {
-    let source = source_of(alloc, row, failing.source)?;
-    match sink_of(alloc, failing.sink) {
-        Some(sink) => Some(Pair::new(source, sink)),
-        None => {
-            drop(source);
-            None
-        }
+    let source = source_of(alloc, row, failing.source);
+    match source.zip(sink_of(alloc, failing.sink)) {
+        Some((source, sink)) => Some(Pair::new(source, sink)),
+        None => None,
     }
 }
 
 fn source_of(alloc: Global, row: &str, fails: u64) -> Option<MemSource> {
-    let bytes = bytes_of(alloc, row)?;
-    match only(alloc, fails) {
-        Some(fails) => Some(MemSource::new(bytes, PIECE, fails)),
-        None => {
-            drop(bytes);
-            None
-        }
+    match bytes_of(alloc, row).zip(only(alloc, fails)) {
+        Some((bytes, fails)) => Some(MemSource::new(bytes, PIECE, fails)),
+        None => None,
     }
 }
 
 fn sink_of(alloc: Global, fails: u64) -> Option<MemSink> {
-    let fails = only(alloc, fails)?;
-    MemSink::new(alloc, 1, fails, ROOM).ok()
+    match only(alloc, fails) {
+        Some(fails) => MemSink::new(alloc, 1, fails, ROOM).ok(),
+        None => None,
+    }
 }
 
 fn only(alloc: Global, number: u64) -> Option<List<u64>> {

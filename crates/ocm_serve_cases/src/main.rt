@@ -39,6 +39,7 @@ mod sides;
 mod workers;
 
 use crate::names::{Name, add_name, spelled};
+use crate::pages::line_of;
 use crate::runs::run_told;
 use crate::series::series_told;
 use crate::sides::sides_told;
@@ -67,10 +68,7 @@ fn row_told<R: Threads + Wait + Sync>(
 ) -> io::Result<String> {
     let told = line_told(rt, alloc, names, line.as_str());
     drop(line);
-    match told {
-        Some(told) => Ok(told),
-        None => Err(io::Error::from(io::ErrorKind::InvalidInput)),
-    }
+    told.ok_or(io::Error::from(io::ErrorKind::InvalidInput))
 }
 
 fn line_told<R: Threads + Wait + Sync>(
@@ -94,12 +92,9 @@ fn case_told<R: Threads + Wait + Sync>(
 ) -> Option<String> {
     let (kind, row) = line.split_once(' ')?;
     match kind {
-        "let" => {
-            add_name(alloc, names, row)?;
-            Some(String::new(alloc))
-        }
+        "let" => add_name(alloc, names, row).and(Some(String::new(alloc))),
         "each" => series_told(rt, alloc, row),
-        "gates" => sides_told(rt, alloc, row),
-        _ => run_told(rt, alloc, line),
+        "gates" => line_of(sides_told(rt, alloc, row)),
+        _ => line_of(run_told(rt, alloc, line)),
     }
 }

@@ -10,6 +10,13 @@ pub fn add(text: &mut String, told: Option<String>) -> Option<()> {
     added.ok()
 }
 
+/// What is told, and the end of the line.
+pub fn line_of(told: Option<String>) -> Option<String> {
+    let mut line = told?;
+    let ended = line.push_str("\n").ok();
+    ended.and(Some(line))
+}
+
 /// What was written; where pages are named, ` | ` between two, how many of them it is, and whether a part of one more.
 pub fn written_told(alloc: Global, written: &[u8], pages: &str) -> Option<String> {
     let text = escaped(alloc, written)?;

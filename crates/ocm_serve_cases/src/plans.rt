@@ -12,9 +12,19 @@ pub fn plan_of(alloc: Global, row: &str) -> Option<Plan> {
 
 fn words_of(alloc: Global, row: &str) -> Option<Vec<String>> {
     let mut words = Vec::new(alloc);
+    add_words(alloc, &mut words, row).and(Some(words))
+}
+
+fn add_words(alloc: Global, words: &mut Vec<String>, row: &str) -> Option<()> {
     for word in row.split(' ') {
-        let word = String::from_str(alloc, word).ok()?;
-        words.push(word).ok()?;
+        add_word(alloc, words, word)?;
     }
-    Some(words)
+    Some(())
+}
+
+fn add_word(alloc: Global, words: &mut Vec<String>, word: &str) -> Option<()> {
+    match String::from_str(alloc, word) {
+        Ok(word) => words.push(word).ok(),
+        Err(_) => None,
+    }
 }

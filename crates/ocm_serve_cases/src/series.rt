@@ -1,5 +1,6 @@
 //! Runs in which each call fails in turn.
 use crate::conns::Failing;
+use crate::pages::add;
 use crate::plans::plan_of;
 use crate::runs::planned_told;
 use ocm_options::Plan;
@@ -46,13 +47,7 @@ fn planned_series<R: Threads + Wait + Sync>(
     let whole = add_runs(rt, alloc, &mut series, plan, kind, count, pages, row);
     let Series { text, told, .. } = series;
     drop(told);
-    match whole {
-        Some(()) => Some(text),
-        None => {
-            drop(text);
-            None
-        }
-    }
+    whole.and(Some(text))
 }
 
 fn add_runs<R: Threads + Wait + Sync>(
@@ -104,8 +99,6 @@ fn close(alloc: Global, series: &mut Series, last: u64) -> Option<()> {
     if series.told.is_empty() {
         return Some(());
     }
-    let line = format!(in alloc; "{} to {last}: {}\n", series.first, series.told.as_str()).ok()?;
-    let added = series.text.push_str(line.as_str());
-    drop(line);
-    added.ok()
+    let line = format!(in alloc; "{} to {last}: {}\n", series.first, series.told.as_str());
+    add(&mut series.text, line.ok())
 }

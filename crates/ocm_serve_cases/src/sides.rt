@@ -1,38 +1,42 @@
 //! Two connections served side by side.
-use crate::backs::{add_back, add_exchanges, served_told};
+ghost use Rattle.std.specs.Prelude.{◌<◌, ◌≤◌, length};
+
+use crate::backs::{add_back, add_exchanges, add_served};
 use crate::conns::{Failing, bytes_of, conn_of};
-use crate::disks::{disk_of, kept_told};
-use crate::pages::add;
+use crate::disks::{add_kept, disk_of};
 use crate::plans::plan_of;
-use ocm_base::{Gate, List, MemClock};
-use ocm_disk::{GateDisk, MemDisk};
+use ocm_base::{Gate, List, MemClock, and};
+use ocm_disk::GateDisk;
 use ocm_options::Plan;
 use ocm_pump::MemDial;
 use ocm_serve::serve;
 use ocm_server::{Draw, GateConn, GateEvent, MemConn, MemDoor, Served, Worker, gate_conn};
 use ocm_store::Store;
-use std::alloc::Global;
+use std::alloc::{AllocError, Global};
 use std::sync::{Arc, Wait};
 use std::thread::Threads;
 
 /// A worker whose connections wait for gates.
 type GateHand = Worker<Store<GateDisk>, MemDoor<GateConn>, MemDial, MemClock>;
 
-/// Two holds of one gate: for what sets it, and for what waits.
+/// The gates of a run.
 #[derive(Drop)]
-struct Holds {
-    sets: Arc<Gate, Global>,
-    waits: Arc<Gate, Global>,
+struct Gates {
+    /// The disk had its syncs.
+    synced: Arc<Gate, Global>,
+    /// The first connection gave its first byte.
+    given: Arc<Gate, Global>,
 }
 
-/// Two workers, and the gate of the disk.
-#[derive(Drop)]
-struct Sides {
-    workers: Vec<GateHand>,
-    set: Arc<Gate, Global>,
+impl Gates {
+    fn new(alloc: Global) -> Result<Gates, AllocError> {
+        let synced = Arc::new(alloc, Gate::new())?;
+        let (synced, given) = and(synced, Arc::new(alloc, Gate::new()))?;
+        Ok(Gates { synced, given })
+    }
 }
 
-/// What the run comes to, `SYNCS; WORDS; DISK; FIRST; SECOND`, and the end of the line.
+/// What the run comes to, `SYNCS; WORDS; DISK; FIRST; SECOND`.
 pub fn sides_told<R: Threads + Wait + Sync>(rt: &R, alloc: Global, row: &str) -> Option<String> {
     let (syncs, row) = row.split_once("; ")?;
     let (words, row) = row.split_once("; ")?;
@@ -40,9 +44,7 @@ pub fn sides_told<R: Threads + Wait + Sync>(rt: &R, alloc: Global, row: &str) ->
     let plan = plan_of(alloc, words)?;
     let told = planned_told(rt, alloc, &plan, syncs, row);
     drop(plan);
-    let mut told = told?;
-    told.push_str("\n").ok()?;
-    Some(told)
+    told
 }
 
 fn planned_told<R: Threads + Wait + Sync>(
@@ -54,68 +56,64 @@ fn planned_told<R: Threads + Wait + Sync>(
 ) -> Option<String> {
     let (disk, row) = row.split_once("; ")?;
     let (first, second) = row.split_once("; ")?;
-    let disk = disk_of(alloc, disk)?;
-    match sides_of(alloc, first, second) {
-        Some(sides) => served_by(rt, alloc, plan, sides, disk, syncs),
-        None => {
-            drop(disk);
-            None
-        }
+    let gates = Gates::new(alloc).ok()?;
+    let mut workers = Vec::new(alloc);
+    let added = add_workers(alloc, &mut workers, &gates, first, second);
+    let disk = gate_disk(alloc, disk, syncs, &gates.synced);
+    drop(gates);
+    let told = match added.and(disk) {
+        Some(disk) => served_told(rt, alloc, plan, &mut workers, disk),
+        None => None,
+    };
+    drop(workers);
+    told
+}
+
+/// A disk that sets a gate after so many syncs.
+fn gate_disk(alloc: Global, row: &str, syncs: u64, set: &Arc<Gate, Global>) -> Option<GateDisk> {
+    if syncs == 0 {
+        return None;
+    }
+    let set = Arc::try_clone(set).ok();
+    match disk_of(alloc, row).zip(set) {
+        Some((disk, set)) => Some(GateDisk::new(disk, syncs, set)),
+        None => None,
     }
 }
 
-fn served_by<R: Threads + Wait + Sync>(
+fn served_told<R: Threads + Wait + Sync>(
     rt: &R,
     alloc: Global,
     plan: &Plan,
-    sides: Sides,
-    disk: MemDisk,
-    syncs: u64,
+    workers: &mut Vec<GateHand>,
+    disk: GateDisk,
 ) -> Option<String> {
-    let Sides { mut workers, set } = sides;
-    if workers.is_empty() || syncs == 0 {
-        drop(workers);
-        drop(set);
+    if workers.is_empty() {
         drop(disk);
         return None;
     }
-    let disk = GateDisk::new(disk, syncs, set);
     let (served, disk) = serve(rt, alloc, plan, workers.as_mut_slice(), disk, [0; 32]);
-    let told = ended_told(alloc, served, disk, workers.as_slice());
-    drop(workers);
-    told
+    ended_told(alloc, served, workers.as_slice(), disk)
 }
 
 fn ended_told(
     alloc: Global,
     served: Served,
-    disk: GateDisk,
     workers: &[GateHand],
+    disk: GateDisk,
 ) -> Option<String> {
-    let kept = kept_told(alloc, disk);
     let mut text = String::new(alloc);
-    match add_all(alloc, &mut text, served, kept, workers) {
-        Some(()) => Some(text),
-        None => {
-            drop(text);
-            None
-        }
-    }
+    let ended = add_served(alloc, &mut text, served);
+    let worked = add_worked(alloc, &mut text, workers);
+    let kept = add_kept(alloc, &mut text, disk);
+    ended.and(worked).and(kept).and(Some(text))
 }
 
-fn add_all(
-    alloc: Global,
-    text: &mut String,
-    served: Served,
-    kept: Option<String>,
-    workers: &[GateHand],
-) -> Option<()> {
-    add(text, served_told(alloc, served))?;
+fn add_worked(alloc: Global, text: &mut String, workers: &[GateHand]) -> Option<()> {
     for worker in workers {
         add_worker(alloc, text, worker)?;
     }
-    text.push_str("; ").ok()?;
-    add(text, kept)
+    Some(())
 }
 
 fn add_worker(alloc: Global, text: &mut String, worker: &GateHand) -> Option<()> {
@@ -126,112 +124,92 @@ fn add_worker(alloc: Global, text: &mut String, worker: &GateHand) -> Option<()>
     add_exchanges(alloc, text, worker.dial.exchanges())
 }
 
-/// The workers of two connections: the first waits for the disk's gate, the second for the first byte of the first.
-fn sides_of(alloc: Global, first: &str, second: &str) -> Option<Sides> {
-    let disk = new_gate(alloc)?;
-    match two_gates(alloc) {
-        Some((given, written)) => sides_by(alloc, first, second, disk, given, written),
-        None => {
-            drop(disk);
-            None
-        }
-    }
-}
-
-fn sides_by(
+/// Adds the workers of two connections: the first waits for the disk's gate, the second for the first byte of the first.
+/// What the second writes sets a gate that is set by then.
+fn add_workers(
     alloc: Global,
+    workers: &mut Vec<GateHand>,
+    gates: &Gates,
     first: &str,
     second: &str,
-    disk: Holds,
-    given: Holds,
-    written: Holds,
-) -> Option<Sides> {
-    let mut workers = Vec::new(alloc);
-    let first = waiting(alloc, first, disk.waits, GateEvent::FirstGiven, given.sets);
-    let second = waiting(
+) -> Option<()> {
+    let Gates { synced, given } = gates;
+    add_waiting(alloc, workers, first, synced, GateEvent::FirstGiven, given)?;
+    add_waiting(
         alloc,
+        workers,
         second,
-        given.waits,
+        given,
         GateEvent::FirstWritten,
-        written.sets,
-    );
-    drop(written.waits);
-    let one = add_hand(alloc, &mut workers, first);
-    let other = add_hand(alloc, &mut workers, second);
-    if one.is_some() && other.is_some() {
-        return Some(Sides {
-            workers,
-            set: disk.sets,
-        });
-    }
-    drop(workers);
-    drop(disk.sets);
-    None
+        given,
+    )
 }
 
-fn add_hand(alloc: Global, workers: &mut Vec<GateHand>, conn: Option<GateConn>) -> Option<()> {
-    let worker = worker_of(alloc, conn?)?;
-    workers.push(worker).ok()
-}
-
-fn two_gates(alloc: Global) -> Option<(Holds, Holds)> {
-    let first = new_gate(alloc)?;
-    match new_gate(alloc) {
-        Some(second) => Some((first, second)),
-        None => {
-            drop(first);
-            None
-        }
+/// Adds a worker of one connection, which gives its last byte after a gate was set, and sets another.
+fn add_waiting(
+    alloc: Global,
+    workers: &mut Vec<GateHand>,
+    row: &str,
+    wait: &Arc<Gate, Global>,
+    event: GateEvent,
+    set: &Arc<Gate, Global>,
+) -> Option<()> {
+    match waiting(alloc, row, wait, event, set) {
+        Some(conn) => add_worker_of(alloc, workers, conn),
+        None => None,
     }
 }
 
-fn new_gate(alloc: Global) -> Option<Holds> {
-    let sets = Arc::new(alloc, Gate::new()).ok()?;
-    match Arc::try_clone(&sets) {
-        Ok(waits) => Some(Holds { sets, waits }),
-        Err(_) => {
-            drop(sets);
-            None
-        }
-    }
-}
-
-/// A connection that gives its last byte after a gate was set, and sets another.
 fn waiting(
     alloc: Global,
     row: &str,
+    wait: &Arc<Gate, Global>,
+    event: GateEvent,
+    set: &Arc<Gate, Global>,
+) -> Option<GateConn> {
+    let last = last_of(alloc, row)?;
+    match conn_of(alloc, row, Failing::never()).zip(Arc::try_clone(wait).ok()) {
+        Some((conn, wait)) => setting(conn, last, wait, event, set),
+        None => None,
+    }
+}
+
+fn setting(
+    conn: MemConn,
+    last: usize,
     wait: Arc<Gate, Global>,
     event: GateEvent,
-    set: Arc<Gate, Global>,
+    set: &Arc<Gate, Global>,
 ) -> Option<GateConn> {
-    match held_conn(alloc, row) {
-        Some((conn, last)) => Some(gate_conn(conn, last, wait, event, set)),
-        None => {
+    match Arc::try_clone(set) {
+        Ok(set) => Some(gate_conn(conn, last, wait, event, set)),
+        Err(_) => {
+            drop(conn);
             drop(wait);
-            drop(set);
             None
         }
     }
 }
 
-/// A connection, and the place of its last byte.
-fn held_conn(alloc: Global, row: &str) -> Option<(MemConn, usize)> {
+/// The place of the last byte that a row writes.
+fn last_of(alloc: Global, row: &str) -> Option<usize> {
     let bytes = bytes_of(alloc, row)?;
     let last = bytes.len().saturating_sub(1);
     drop(bytes);
-    let conn = conn_of(alloc, row, Failing::never())?;
-    Some((conn, last))
+    Some(last)
 }
 
-fn worker_of(alloc: Global, conn: GateConn) -> Option<GateHand> {
+fn add_worker_of(alloc: Global, workers: &mut Vec<GateHand>, conn: GateConn) -> Option<()> {
     let conns = vec![in alloc; conn].ok()?;
     match MemDoor::new(alloc, List::from_vec(conns)) {
-        Ok(door) => Some(Worker::new(
-            door,
-            MemDial::new(alloc, List::new(alloc)),
-            Draw::new([0; 32], 0),
-            MemClock::new(List::new(alloc)),
-        )),
+        Ok(door) => workers
+            .push(Worker::new(
+                door,
+                MemDial::new(alloc, List::new(alloc)),
+                Draw::new([0; 32], 0),
+                MemClock::new(List::new(alloc)),
+            ))
+            .ok(),
         Err(_) => None,
     }
 }

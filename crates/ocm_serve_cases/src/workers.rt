@@ -18,35 +18,30 @@ struct Making {
     replies: List<Option<Bytes>>,
 }
 
-/// The workers of a row, `; ` between two. The numbers of failing calls are those of each worker's first connection.
-pub fn workers_of(alloc: Global, rows: &str, failing: Failing) -> Option<Vec<Hand>> {
-    let mut workers = Vec::new(alloc);
-    match add_workers(alloc, &mut workers, rows, failing) {
-        Some(()) => Some(workers),
-        None => {
-            drop(workers);
-            None
-        }
-    }
-}
-
-fn add_workers(alloc: Global, workers: &mut Vec<Hand>, rows: &str, failing: Failing) -> Option<()> {
+/// Adds the workers of a row, `; ` between two. The numbers of failing calls are those of each worker's first connection.
+pub fn add_workers(
+    alloc: Global,
+    workers: &mut Vec<Hand>,
+    rows: &str,
+    failing: Failing,
+) -> Option<()> {
     for row in rows.split("; ") {
-        let worker = worker_of(alloc, row, failing)?;
-        workers.push(worker).ok()?;
+        add_worker(alloc, workers, row, failing)?;
     }
     Some(())
 }
 
-fn worker_of(alloc: Global, row: &str, failing: Failing) -> Option<Hand> {
+fn add_worker(alloc: Global, workers: &mut Vec<Hand>, row: &str, failing: Failing) -> Option<()> {
     let (fails, parts) = row.split_once(" | ").unwrap_or((row, ""));
-    let fails = fails.parse().ok()?;
+    let Ok(fails) = fails.parse() else {
+        return None;
+    };
     let mut making = Making {
         conns: List::new(alloc),
         replies: List::new(alloc),
     };
     match add_parts(alloc, &mut making, parts, failing) {
-        Some(()) => made(alloc, making, fails),
+        Some(()) => add_made(alloc, workers, making, fails),
         None => {
             drop(making);
             None
@@ -54,15 +49,17 @@ fn worker_of(alloc: Global, row: &str, failing: Failing) -> Option<Hand> {
     }
 }
 
-fn made(alloc: Global, making: Making, fails: u64) -> Option<Hand> {
+fn add_made(alloc: Global, workers: &mut Vec<Hand>, making: Making, fails: u64) -> Option<()> {
     let Making { conns, replies } = making;
     match MemDoor::new(alloc, conns) {
-        Ok(door) => Some(Worker::new(
-            CaseDoor::new(door, fails),
-            MemDial::new(alloc, replies),
-            Draw::new([0; 32], 0),
-            MemClock::new(List::new(alloc)),
-        )),
+        Ok(door) => workers
+            .push(Worker::new(
+                CaseDoor::new(door, fails),
+                MemDial::new(alloc, replies),
+                Draw::new([0; 32], 0),
+                MemClock::new(List::new(alloc)),
+            ))
+            .ok(),
         Err(_) => {
             drop(replies);
             None
@@ -94,14 +91,18 @@ fn add_conn(alloc: Global, conns: &mut List<MemConn>, row: &str, failing: Failin
     } else {
         Failing::never()
     };
-    let conn = conn_of(alloc, row, failing)?;
-    conns.push(conn).ok()
+    match conn_of(alloc, row, failing) {
+        Some(conn) => conns.push(conn).ok(),
+        None => None,
+    }
 }
 
 fn add_reply(alloc: Global, replies: &mut List<Option<Bytes>>, row: &str) -> Option<()> {
     if row == "-" {
         return replies.push(None).ok();
     }
-    let bytes = bytes_of(alloc, row)?;
-    replies.push(Some(bytes)).ok()
+    match bytes_of(alloc, row) {
+        Some(bytes) => replies.push(Some(bytes)).ok(),
+        None => None,
+    }
 }

@@ -5,10 +5,9 @@
 //! returns.
 #![tactic(auto)]
 
-mod chunks;
+mod bodies;
 mod entrances;
 mod exchanges;
-mod lengths;
 mod lines;
 mod pauses;
 mod streams;

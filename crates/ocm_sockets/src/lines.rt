@@ -41,8 +41,11 @@ const MOST_UNSENT: usize = 16_777_216;
 /// How many bytes one read takes while a connection lingers.
 const PIECE: usize = 8_192;
 
+/// What a client that waits for it is told.
+const CONTINUE: &[u8] = b"HTTP/1.1 100 Continue\r\n\r\n";
+
 /// What is to be done with a line that the set told of.
-#[derive(Clone, Copy, Debug, PartialEq, Eq)]
+#[derive(Clone, Copy)]
 pub enum Step {
     /// A worker is to serve its next message.
     Serve,
@@ -53,7 +56,7 @@ pub enum Step {
 }
 
 /// What else may come from the peer.
-#[derive(Clone, Copy, Debug, PartialEq, Eq)]
+#[derive(Clone, Copy)]
 enum Incoming {
     /// More bytes.
     Open,
@@ -139,7 +142,7 @@ impl<'a, R: time::Clock> Line<'a, R> {
 
     /// Whether nothing more can be read.
     pub fn has_ended(&self) -> bool {
-        self.incoming != Incoming::Open
+        !matches!(self.incoming, Incoming::Open)
     }
 
     /// Whether some bytes that were taken are not sent yet.
@@ -286,8 +289,27 @@ impl<'a, R: time::Clock> Line<'a, R> {
 
     /// Whether a message is ahead that is to be served now: it is whole, or has a fault in what came of it.
     fn has_message(&mut self) -> bool {
-        self.whole = self.look.message_end(&self.ahead).unwrap_or(0);
+        self.whole = self.look.message_end(self.alloc, &self.ahead).unwrap_or(0);
+        if self.look.take_awaited() {
+            self.send_continue();
+        }
         self.whole > 0
+    }
+
+    /// Tells the peer to send the body that it announced (RFC 9110 section 15.2.1), behind what is not sent yet.
+    fn send_continue(&mut self) {
+        let sent = if self.has_unsent() {
+            Some(0)
+        } else {
+            write_now(&self.stream, CONTINUE, &[])
+        };
+        let is_kept = match sent {
+            Some(n) => self.keep(CONTINUE.get(n..).unwrap_or_default()),
+            None => false,
+        };
+        if !is_kept {
+            self.incoming = Incoming::Broken;
+        }
     }
 
     /// Lets a message that is cut be served as far as it came: no more can come. Answers whether something came of it.

@@ -42,7 +42,7 @@ struct Noted {
 }
 
 /// What one who wants a host is to do.
-#[derive(Clone, Copy, Debug, PartialEq, Eq)]
+#[derive(Clone, Copy)]
 enum Turn {
     Try,
     Wait,

@@ -22,7 +22,7 @@ const WAIT: i32 = 500;
 const MOST_HELD: u64 = 134_217_728;
 
 /// For what a connection waits.
-#[derive(Clone, Copy, PartialEq, Eq)]
+#[derive(Clone, Copy)]
 pub enum Wanted {
     /// Bytes to read.
     Readable,

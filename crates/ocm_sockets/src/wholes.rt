@@ -1,229 +1,171 @@
-//! Where a message ends, as it looks, or where it has a fault. The reader of messages answers at once to what is handed
-//! over: what is found here is what that finds by its contract. A wrong answer would cost time and no meaning: of a
-//! message that was handed over too early the rest is read by waiting, and one that is held for too long is dropped.
-ghost use Rattle.std.specs.Prelude.{◌≤◌, IfSome, length};
+//! Where a request ends, or that it has a fault, as soon as its bytes show it. The reader of messages goes over the same
+//! bytes with the same functions of `ocm_heads`, so that it answers at once to what is handed over. A wrong answer would
+//! cost time and no meaning: of a request that was handed over too early the rest is read by waiting, and one that is
+//! held for too long is dropped.
+ghost use Rattle.std.specs.Prelude.{◌≡◌, ◌≤◌, IfSome, false, length};
 
-use crate::chunks::{ChunkLine, MOST_LINE, chunk_line};
-use crate::lengths::{Lengths, MOST_BODY, value_of};
-use ocm_limits::{MOST_HEAD_BYTES, MOST_HEAD_LINES};
+use crate::bodies::{Announced, body_announced};
+use ocm_heads::{ChunkLine, Found, Length, Look as Search, read_chunk_line};
+use ocm_limits::MOST_BODY_BYTES;
+use std::alloc::Global;
 
-/// How many bytes trailers have at most (RFC 9112 section 7.1.2).
-const MOST_TRAILERS: usize = 8_192;
+/// How many bytes a chunk line has at most, its CR LF among them.
+const MOST_LINE: usize = 256;
 
-/// What comes next in a message.
-#[derive(Clone, Copy, Debug, PartialEq, Eq)]
+/// What comes next in a request.
+#[derive(Clone, Copy)]
 enum Part {
-    /// The first line of a head, or CR and LF before it, which are passed over (RFC 9112 section 2.2).
-    First,
-    /// Another line of a head.
-    Field,
+    /// Its head, or the rest of it, with the CR and LF before it (RFC 9112 section 2.2).
+    Head(Search),
     /// The line ahead of a chunk (RFC 9112 section 7.1).
     Chunk,
     /// The CR LF behind a chunk's data.
     Break,
-    /// A line behind the last chunk.
-    Trailer,
+    /// The lines behind the last chunk, or the rest of them (RFC 9112 section 7.1.2).
+    Trailers(Search),
     /// Nothing: it ends there.
     End,
     /// Nothing: what came before is refused, whatever follows.
     Fault,
 }
 
-/// How far a message was looked at, of which more bytes may come.
-#[derive(Clone, Copy, Debug)]
+/// How far a request was looked at, of which more bytes may come.
+#[derive(Clone, Copy)]
 pub struct Look {
     part: Part,
     /// Where that part begins, which may lie behind the bytes that are here.
     place: usize,
-    /// How many bytes at the front were looked at before: the line at the place doesn't end in them.
-    seen: usize,
-    /// How many lines the head has so far, with those that are empty before it.
-    lines: usize,
-    /// What the head's fields say of the body.
-    lengths: Lengths,
     /// How many bytes of the body the chunks so far have.
-    body: usize,
-    /// Where the trailers begin.
-    trailers: usize,
+    body: u64,
+    /// Whether the client waits to be told to send the body, and was not told.
+    is_awaited: bool,
 }
 
 impl Look {
-    /// A message of which nothing was looked at.
+    /// A request of which nothing was looked at.
     pub fn new() -> Look {
         Look {
-            part: Part::First,
+            part: Part::Head(Search::of_head()),
             place: 0,
-            seen: 0,
-            lines: 0,
-            lengths: Lengths::new(),
             body: 0,
-            trailers: 0,
+            is_awaited: false,
         }
     }
 
-    /// How many bytes the first message has, where it is whole, or all of these, where it has a fault so far. Those that
-    /// were looked at before are the front of these. Each byte is looked at once, those of a chunk line that isn't whole
-    /// aside.
-    pub fn message_end(&mut self, bytes: &[u8]) -> Option<usize>
+    /// Whether the client waits to be told to send the body, which it is then: the answer is true once for a request.
+    pub fn take_awaited(&mut self) -> bool
+        ensures told { result ≡ self.old.is_awaited }
+        ensures once { self.new.is_awaited ≡ false }
+    {
+        let is_awaited = self.is_awaited;
+        self.is_awaited = false;
+        is_awaited
+    }
+
+    /// How many bytes the first request has, where it is whole, or all of these, where it has a fault so far. Those that
+    /// were looked at before are the front of these. A head is read once, when it is whole, and each other byte is looked
+    /// at once, those of a chunk line that isn't whole aside. Where there is no memory to read a head, all of these are
+    /// handed over too: the reader has an answer to that.
+    pub fn message_end(&mut self, alloc: Global, bytes: &[u8]) -> Option<usize>
         ensures { IfSome result (λ n. n ≤ length bytes.now) }
     {
-        self.pass_blanks(bytes);
-        for _ in 0..bytes.len() {
-            if !self.step(bytes) {
+        for _ in 0..=bytes.len() {
+            if !self.step(alloc, bytes) {
                 break;
             }
         }
-        if self.part == Part::End && self.place <= bytes.len() {
-            return Some(self.place);
-        }
-        if self.part == Part::Fault || self.is_too_long(bytes.len()) {
-            return Some(bytes.len());
-        }
-        self.seen = bytes.len();
-        None
-    }
-
-    /// Whether so many bytes without the end of the head, or of the trailers, are too many.
-    fn is_too_long(&self, count: usize) -> bool {
         match self.part {
-            Part::First | Part::Field => count > MOST_HEAD_BYTES,
-            Part::Trailer => count > self.trailers.saturating_add(MOST_TRAILERS),
-            Part::Chunk | Part::Break | Part::End | Part::Fault => false,
-        }
-    }
-
-    /// Passes over the CR and LF that come before a head, and counts the lines that they end.
-    fn pass_blanks(&mut self, bytes: &[u8]) {
-        if self.part == Part::First {
-            for byte in bytes.get(self.place..).unwrap_or_default() {
-                match *byte {
-                    b'\r' => self.skip(1),
-                    b'\n' => {
-                        self.skip(1);
-                        self.count_line();
-                    }
-                    _ => break,
-                }
-            }
-        }
-    }
-
-    /// Counts a line of the head, or before it: one too many is a fault.
-    fn count_line(&mut self) {
-        self.lines = self.lines.saturating_add(1);
-        if self.lines > MOST_HEAD_LINES {
-            self.part = Part::Fault;
+            Part::End if self.place <= bytes.len() => Some(self.place),
+            Part::Fault => Some(bytes.len()),
+            _ => None,
         }
     }
 
     /// Passes over the next part. Answers whether it was all here, so that there may be another.
-    fn step(&mut self, bytes: &[u8]) -> bool {
+    fn step(&mut self, alloc: Global, bytes: &[u8]) -> bool {
+        let rest = bytes.get(self.place..).unwrap_or_default();
         match self.part {
-            Part::First | Part::Field | Part::Trailer => match self.next_line(bytes) {
-                Some(line) => {
-                    self.pass(line);
-                    true
-                }
-                None => false,
-            },
-            Part::Chunk => self.pass_chunk(bytes.get(self.place..).unwrap_or_default()),
-            Part::Break => self.pass_break(bytes.get(self.place..).unwrap_or_default()),
+            Part::Head(search) => self.pass_head(alloc, search, bytes, rest),
+            Part::Chunk => self.pass_chunk(rest),
+            Part::Break => self.pass_break(rest),
+            Part::Trailers(search) => self.pass_trailers(search, rest),
             Part::End | Part::Fault => false,
         }
     }
 
-    /// The line that comes next, with its end, where that is here.
-    fn next_line<'b>(&self, bytes: &'b [u8]) -> Option<&'b [u8]> {
-        let start = self.place.max(self.seen);
-        let before = bytes.get(start..)?.iter().position(|b| *b == b'\n')?;
-        bytes.get(self.place..=start.saturating_add(before))
-    }
-
-    /// Passes over this line, and over what it says is behind it.
-    fn pass(&mut self, line: &[u8]) {
-        self.skip(line.len());
-        if self.part == Part::Trailer {
-            if is_empty(line) {
-                self.part = Part::End;
-            }
-        } else if self.part == Part::First {
-            self.part = Part::Field;
-            self.count_line();
-        } else {
-            self.pass_field(line);
-        }
-    }
-
-    /// Passes over bytes.
-    fn skip(&mut self, count: usize) {
+    /// Goes on to a part behind so many bytes.
+    fn go(&mut self, count: usize, part: Part) {
         self.place = self.place.saturating_add(count);
+        self.part = part;
     }
 
-    /// Takes from a line of a head what it says of the body. The first empty one ends the head.
-    fn pass_field(&mut self, line: &[u8]) {
-        if is_empty(line) {
-            self.end_head();
-        } else if let Some(value) = value_of(line, b"transfer-encoding:") {
-            self.lengths.pass_coding(value);
-        } else if let Some(value) = value_of(line, b"content-length:") {
-            self.lengths.pass_length(value);
-        }
-        self.count_line();
-    }
-
-    /// Ends the head, and passes over a body that doesn't come in chunks.
-    fn end_head(&mut self) {
-        if self.place > MOST_HEAD_BYTES || self.lengths.has_fault() {
-            self.part = Part::Fault;
-        } else if self.lengths.is_chunked() {
-            self.part = Part::Chunk;
-        } else {
-            self.part = Part::End;
-            let length = self.lengths.length();
-            self.skip(length);
-        }
-    }
-
-    /// Passes over the chunk whose line these bytes begin with, where that is here. Answers whether it is.
-    fn pass_chunk(&mut self, bytes: &[u8]) -> bool {
-        match chunk_line(bytes.get(..MOST_LINE).unwrap_or(bytes)) {
-            ChunkLine::Whole(len, size) => self.begin_chunk(len, size),
-            ChunkLine::Open if bytes.len() <= MOST_LINE => return false,
-            ChunkLine::Open | ChunkLine::Refused => self.part = Part::Fault,
+    /// Passes over the head, of which the rest begins these bytes.
+    fn pass_head(&mut self, alloc: Global, mut search: Search, bytes: &[u8], rest: &[u8]) -> bool {
+        match search.look(rest) {
+            Found::Unfinished => {
+                self.go(rest.len(), Part::Head(search));
+                return false;
+            }
+            Found::TooLong(_) => self.part = Part::Fault,
+            Found::Whole(len) => match body_announced(alloc, bytes) {
+                Ok(Some(told)) => self.pass_body(len, told),
+                Ok(None) | Err(_) => self.part = Part::Fault,
+            },
         }
         true
     }
 
-    /// Passes over a chunk line of so many bytes, and over the data that it tells. The last chunk has none.
-    fn begin_chunk(&mut self, len: usize, size: usize) {
-        self.skip(len);
-        self.body = self.body.saturating_add(size);
-        if self.body > MOST_BODY {
-            self.part = Part::Fault;
-        } else if size == 0 {
-            self.part = Part::Trailer;
-            self.trailers = self.place;
-        } else {
-            self.part = Part::Break;
-            self.skip(size);
+    /// Passes over the rest of a head, of so many bytes, and over a body that doesn't come in chunks.
+    fn pass_body(&mut self, len: usize, told: Announced) {
+        self.is_awaited = told.is_awaited;
+        match told.length {
+            Length::Sized(size) => self.go(len.saturating_add(size as usize), Part::End),
+            Length::Chunked => self.go(len, Part::Chunk),
+            Length::ToEnd => self.part = Part::Fault,
         }
     }
 
-    /// Passes over the CR LF that these bytes begin with, where it is here. Answers whether it is.
-    fn pass_break(&mut self, bytes: &[u8]) -> bool {
-        match bytes {
+    /// Passes over the chunk whose line these bytes begin with, where that is here. The last chunk has no data.
+    fn pass_chunk(&mut self, rest: &[u8]) -> bool {
+        match read_chunk_line(rest.get(..MOST_LINE).unwrap_or(rest)) {
+            ChunkLine::Unfinished if rest.len() <= MOST_LINE => return false,
+            ChunkLine::Unfinished | ChunkLine::Refused => self.part = Part::Fault,
+            ChunkLine::Line(len, 0) => self.go(len, Part::Trailers(Search::of_trailers())),
+            ChunkLine::Line(len, size) => self.pass_data(len, size),
+        }
+        true
+    }
+
+    /// Passes over a chunk line of so many bytes, and over the data that it tells.
+    fn pass_data(&mut self, len: usize, size: u64) {
+        self.body = self.body.saturating_add(size);
+        if self.body > MOST_BODY_BYTES {
+            self.part = Part::Fault;
+        } else {
+            self.go(len.saturating_add(size as usize), Part::Break);
+        }
+    }
+
+    /// Passes over the CR LF that these bytes begin with, where it is here.
+    fn pass_break(&mut self, rest: &[u8]) -> bool {
+        match rest {
             [] | [b'\r'] => return false,
-            [b'\r', b'\n', ..] => {
-                self.skip(2);
-                self.part = Part::Chunk;
-            }
+            [b'\r', b'\n', ..] => self.go(2, Part::Chunk),
             _ => self.part = Part::Fault,
         }
         true
     }
-}
 
-/// Whether a line is empty.
-fn is_empty(line: &[u8]) -> bool {
-    matches!(line, b"\r\n" | b"\n")
+    /// Passes over the trailers, of which the rest begins these bytes.
+    fn pass_trailers(&mut self, mut search: Search, rest: &[u8]) -> bool {
+        match search.look(rest) {
+            Found::Unfinished => {
+                self.go(rest.len(), Part::Trailers(search));
+                return false;
+            }
+            Found::TooLong(_) => self.part = Part::Fault,
+            Found::Whole(len) => self.go(len, Part::End),
+        }
+        true
+    }
 }

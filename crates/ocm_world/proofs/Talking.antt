@@ -1,9 +1,11 @@
 -- What is said on a connection of a script, message by message.
-use Rattle.std.proofs.Common.{◌≡◌, ◌||◌, inl, inr, ℕ, ◌+◌, List, [], ◌++◌, length, Bool, true, false, Some, refl, sym, ◌∙◌, ap, subst, append_assoc, append-nil, IsTrue}
+use Rattle.std.proofs.Common.{◌≡◌, ◌||◌, inl, inr, ℕ, ◌+◌, List, [], ◌++◌, length, Bool, true, false, Some, refl, sym, ◌∙◌, ap, subst, append_assoc, append-nil, IsTrue, Result, Ok, Err, IfOk, OnOk}
 use Rattle.std.specs.Prelude.{nat_eq, unwrap_or}
+use Rattle.std.specs.Result.{result_ok}
 use Rattle.ocm_types.specs.Draws.{fresh_plus}
 use Rattle.ocm_entry.specs.declared.asks.Ask.{Ask}
 use Rattle.ocm_entry.specs.declared.asks.Ask.TheVariants as asks
+use Rattle.ocm_entry.specs.declared.replies.Reply.{Reply}
 use Rattle.ocm_http.specs.Frames.{Frame, Given, Refused, Over, IsFrame}
 use Rattle.ocm_http.specs.Places.{past}
 use Rattle.ocm_http.specs.Readers.{Reads, ReadsMessage, ReaderState}
@@ -15,10 +17,13 @@ use Rattle.ocm_http.specs.declared.messages.FrameFault.TheVariants as faults
 use Rattle.ocm_http.proofs.Stable.{frame_stays}
 use Rattle.ocm_base.specs.Outside.{Takes}
 use Rattle.ocm_dav.specs.declared.configs.Config.{Config}
+use Rattle.ocm_dav.specs.declared.wants.Wanted.TheVariants as wants
+use Rattle.ocm_pages.specs.Pages.{page_of}
+use Rattle.ocm_pages.specs.declared.shapes.Shape.{Shape}
 use Rattle.ocm_world.specs.Servers.{Server, reply_of, server_after}
 use Rattle.ocm_world.specs.Running.{GivesLines}
 use Rattle.ocm_world.specs.Talks as talks
-use Rattle.ocm_world.specs.Talks.{AreRequests, Says, after_tick, asked_of, closes, is_done, page_lines, refused_lines, replied}
+use Rattle.ocm_world.specs.Talks.{Answers, AreRequests, Says, after_tick, asked_of, closes, is_done, is_no_memory, page_lines, refused_lines, replied}
 
 -- ---- reading
 
@@ -164,3 +169,11 @@ replied-done first second server ask done = ap (λ b. after_tick b second (asked
 pub replied-else : (first second : Bool) (server : Server) (ask : Ask) → is_done (reply_of first server (asks.Tick server.clock)) ≡ false
     → replied first second server ask ≡ asked_of first server (asks.Tick server.clock)
 replied-else first second server ask done = ap (λ b. after_tick b second (asked_of first server (asks.Tick server.clock)) ask) done
+
+-- the page of a reply, or none where there was no memory
+pub answers-asked : {E : Type 0} (page : Result (List ℕ) E) (first second : Bool) (server : Server) (ask : Ask) (shape : Shape) (reply : Reply)
+    → reply ≡ (replied first second server ask).0 → OnOk page (is_no_memory reply ≡ false) → IfOk page (λ bytes. bytes ≡ (page_of reply shape).bytes)
+    → Answers (wants.Ask ask shape) server (replied first second server ask).1 (result_ok page)
+answers-asked (Ok bytes) first second server ask shape reply is had shown =
+    (first, second, (refl, ap is_no_memory (sym is) ∙ had, shown ∙ ap (λ (r : Reply). (page_of r shape).bytes) is))
+answers-asked (Err fault) first second server ask shape reply is had shown = inr (first, second, refl)

@@ -8,7 +8,9 @@ use Rattle.ocm_entry.specs.declared.asks.Ask.{Ask}
 use Rattle.ocm_entry.specs.declared.replies.Reply.{Reply}
 use Rattle.ocm_rules.specs.Numbers.{same_text}
 use Rattle.ocm_world.specs.declared.nodes.Node.{Node}
-use Rattle.ocm_world.specs.Servers.{Server, World, asked_at, message_at, message_of, reply_at, reply_of, server_after, server_at, step_at}
+use Rattle.ocm_rules.specs.Lean.{count}
+use Rattle.ocm_world.specs.Servers.{Server, World, asked_at, crashed, history, message_at, message_of, reply_at, reply_of, server_after, server_at, step_at}
+use Rattle.ocm_world.specs.Transcript.{kept_at}
 use Rattle.ocm_world.specs.Running.{AreOf, Asks, IsOf, is_at}
 
 -- the server at this place is the first of this host
@@ -138,6 +140,12 @@ message-found server world host m there = sym (ap (λ (found : Option Server). o
 
 pub message-nowhere : (world : World) (host : List ℕ) (m : ℕ) → server_at world host ≡ None → None ≡ message_at world host m
 message-nowhere world host m none = sym (ap (λ (found : Option Server). option_and_then (λ (s : Server). message_of s m) found) none)
+
+-- how many entries a server keeps after a crash is told of the one of this host
+pub kept-found : (keeps : Bool) (world : World) (host : List ℕ) (server : Server) (number : ℕ) → number ≡ count (crashed keeps server).host (history (crashed keeps server))
+    → server_at world host ≡ Some server → Some number ≡ kept_at keeps world host
+kept-found keeps world host server number is there =
+    ap Some is ∙ sym (ap (option_map (λ (s : Server). count (crashed keeps s).host (history (crashed keeps s)))) there)
 
 pub found-within : (host : List ℕ) (all : List Node) (at : ℕ) (d : Node) → position (is_at host) all ≡ Some at → at < length all
 found-within host all at d e = (position-Some (is_at host) all at d e).0

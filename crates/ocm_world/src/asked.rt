@@ -1,5 +1,6 @@
 //! What the lines of a script ask of the servers that they name.
 ghost use Rattle.std.specs.Prelude.{◌≡◌, ◌++◌, [], Some, IfOk, IsTrue};
+ghost use Rattle.std.specs.Result.{result_err};
 ghost use Rattle.ocm_entry.specs.declared.asks.Ask.TheVariants as asks;
 ghost use Rattle.ocm_entry.specs.declared.asks.Method.TheVariants as methods;
 ghost use Rattle.ocm_entry.specs.Proper.{is_proper};
@@ -7,7 +8,8 @@ ghost use Rattle.ocm_records.specs.Fields.{name_of};
 ghost use Rattle.ocm_script.specs.Events.{bytes_of};
 ghost use Rattle.ocm_world.specs.Asked as asked;
 
-use ocm_base::{Bytes, NoMemory};
+use crate::line_parts::joined;
+use ocm_base::{Bytes, NoMemory, and};
 use ocm_entry::{Ask, Cmd, Method};
 use ocm_path::Path;
 use ocm_records::{Field, RecordFault};
@@ -82,17 +84,22 @@ fn user_ask(name: &Name, fresh: Fresh) -> Result<Option<Ask>, NoMemory>
 fn local_ask(key: &Secret, cmd: &Cmd) -> Result<Option<Ask>, NoMemory>
     ensures { IfOk result (λ ask. ask ≡ Some (asks.Local key.now cmd.now)) }
 {
-    let key = key.copy()?;
-    let cmd = cmd.copy()?;
+    let (key, cmd) = and(key.copy()?, cmd.copy())?;
     Ok(Some(Ask::Local { key, cmd }))
+}
+
+/// The same secret and path once more.
+fn copies(secret: &Secret, path: &Path) -> Result<(Secret, Path), NoMemory>
+    ensures { IfOk result (λ both. (both.0 ≡ secret.now) × (both.1 ≡ path.now)) }
+{
+    and(secret.copy()?, path.copy())
 }
 
 /// The ask of a request without a body.
 pub fn dav_ask(alloc: Global, secret: &Secret, method: Method, path: &Path) -> Result<Ask, NoMemory>
     ensures { IfOk result (λ ask. ask ≡ asks.Dav secret.now method path.now []) }
 {
-    let secret = secret.copy()?;
-    let path = path.copy()?;
+    let (secret, path) = copies(secret, path)?;
     let body = Bytes::new(alloc);
     Ok(Ask::Dav {
         secret,
@@ -110,9 +117,7 @@ fn put_ask(
 ) -> Result<Option<Ask>, NoMemory>
     ensures { IfOk result (λ ask. ask ≡ Some (asks.Dav secret.now methods.Put path.now (bytes_of body.now))) }
 {
-    let secret = secret.copy()?;
-    let path = path.copy()?;
-    let body = body.bytes(alloc)?;
+    let ((secret, path), body) = and(copies(secret, path)?, body.bytes(alloc))?;
     Ok(Some(Ask::Dav {
         secret,
         method: Method::Put,
@@ -130,9 +135,7 @@ fn carry_ask(
 ) -> Result<Option<Ask>, NoMemory>
     ensures { IfOk result (λ ask. ask ≡ Some (asks.Carry secret.now from.now to.now moving overwrite)) }
 {
-    let secret = secret.copy()?;
-    let from = from.copy()?;
-    let to = to.copy()?;
+    let ((secret, from), to) = and(copies(secret, from)?, to.copy())?;
     Ok(Some(Ask::Carry {
         secret,
         from,
@@ -184,19 +187,23 @@ pub fn fault_of(event: &Event) -> Option<RecordFault>
     ensures { result ≡ asked.fault_of event.now }
 {
     match event {
-        Event::Offer { host: _, offer } => match offer {
-            Ok(_) => None,
-            Err(fault) => Some(*fault),
-        },
+        Event::Offer { host: _, offer } => fault_in(offer),
         Event::Notice {
             host: _,
             fresh: _,
             notice,
-        } => match notice {
-            Ok(_) => None,
-            Err(fault) => Some(*fault),
-        },
+        } => fault_in(notice),
         _ => None,
+    }
+}
+
+/// What is wrong with what was read, if something is.
+fn fault_in<A>(read: &Result<A, RecordFault>) -> Option<RecordFault>
+    ensures { result ≡ result_err read.now }
+{
+    match read {
+        Ok(_) => None,
+        Err(fault) => Some(*fault),
     }
 }
 
@@ -218,9 +225,7 @@ pub fn fault_text(alloc: Global, fault: RecordFault) -> Result<Bytes, NoMemory>
 fn named(alloc: Global, front: &[u8], field: Field) -> Result<Bytes, NoMemory>
     ensures { IfOk result (λ text. text ≡ front.now ++ name_of field) }
 {
-    let mut text = Bytes::of(alloc, front)?;
-    text.add(field.name().as_bytes())?;
-    Ok(text)
+    joined(alloc, front, field.name().as_bytes())
 }
 
 /// The ask that a letter is at the server that it is for, with these drawn bytes.

@@ -9,8 +9,9 @@ ghost use Rattle.ocm_world.specs.Deliveries.{next_wanting};
 ghost use Rattle.ocm_world.specs.Running.{AreOf, Asks, Runs};
 
 use crate::asked::letter_ask;
+use crate::line_parts::{add, append, joined};
 use crate::servers::Servers;
-use ocm_base::{Bytes, NoMemory};
+use ocm_base::{Bytes, NoMemory, and};
 use ocm_entry::{Ask, Reply};
 use ocm_letters::provider_id;
 use ocm_transcript::{line_text, reply_lines, told_line};
@@ -122,7 +123,7 @@ fn all_delivered(
             false,
             message,
         )?;
-        text.add(more.as_slice())?;
+        add(&mut text, more)?;
         place += 1;
     }
     Ok(text)
@@ -218,10 +219,8 @@ fn with_back(
 {
     let back = told_line(alloc, line, b"back", sender, &reply);
     drop(reply);
-    let back = back?;
-    let mut text = front;
-    text.add(back.as_slice())?;
-    Ok(text)
+    let (front, back) = and(front, back)?;
+    append(front, back)
 }
 
 /// What the sender of a message is told of the reply to it.
@@ -266,12 +265,4 @@ fn unreachable_line(alloc: Global, line: u32, host: &Host) -> Result<Bytes, NoMe
 {
     let text = joined(alloc, b"unreachable ", host.as_str().as_bytes())?;
     line_text(alloc, line, text.as_slice())
-}
-
-fn joined(alloc: Global, front: &[u8], back: &[u8]) -> Result<Bytes, NoMemory>
-    ensures { IfOk result (λ text. text ≡ front.now ++ back.now) }
-{
-    let mut text = Bytes::of(alloc, front)?;
-    text.add(back)?;
-    Ok(text)
 }

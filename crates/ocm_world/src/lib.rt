@@ -5,6 +5,7 @@ mod asked;
 mod deliveries;
 mod drills;
 pub mod laws;
+mod line_parts;
 mod nodes;
 mod replays;
 mod runs;

@@ -9,7 +9,7 @@ ghost use Rattle.ocm_world.specs.Running.{IsDiskOf, IsLoaded, IsOf, IsSound, is_
 ghost use Rattle.ocm_world.specs.Servers.{Server, crashed, history, message_of, reply_of, server_after};
 ghost use Rattle.ocm_store.specs.Stores.{disk_of};
 
-use ocm_base::NoMemory;
+use ocm_base::{NoMemory, and};
 use ocm_disk::{Crash, MemDisk};
 use ocm_entry::{Ask, Object, Reply};
 use ocm_limits::REPLAYED_DISK_BYTES;
@@ -18,11 +18,24 @@ use ocm_types::{Host, Numbered};
 use std::alloc::Global;
 
 /// A server of a script: its host, its store, and what the last `clock` line told it, 0 before the first.
-#[derive(Drop)]
 pub struct Node {
     pub(crate) host: Host,
     pub(crate) store: Store<MemDisk>,
     pub(crate) clock: u64,
+}
+
+/// The store is let go by way of its disk, so that the end of all that a store holds is proved where stores stand, and
+/// not here once more.
+impl Drop for Node {
+    fn drop(self) {
+        let Node {
+            host,
+            store,
+            clock: _,
+        } = self;
+        drop(host);
+        drop(store.into_disk());
+    }
 }
 
 /// Loads a server from its disk.
@@ -31,18 +44,29 @@ pub fn load(alloc: Global, disk: MemDisk, host: &Host, clock: u64) -> Result<Nod
     requires own { IsDiskOf host.now disk.images.seen }
     ensures { IfOk result (IsLoaded disk.images.seen host.now clock) }
 {
-    let own = host.copy()?;
-    match Store::load(alloc, disk, host.copy()?, REPLAYED_DISK_BYTES) {
+    let Ok((own, label)) = two_copies(host) else {
+        drop(disk);
+        return Err(NoMemory);
+    };
+    match Store::load(alloc, disk, label, REPLAYED_DISK_BYTES) {
         Ok(store) => Ok(Node {
             host: own,
             store,
             clock,
         }),
         Err((disk, fault)) => {
+            drop(own);
             drop(disk);
             Err(no_memory(fault))
         }
     }
+}
+
+/// The same host twice.
+fn two_copies(host: &Host) -> Result<(Host, Host), NoMemory>
+    ensures { IfOk result (λ both. (both.0 ≡ host.now) × (both.1 ≡ host.now)) }
+{
+    and(host.copy()?, host.copy())
 }
 
 /// The one fault of a server's own disk that does not fail.

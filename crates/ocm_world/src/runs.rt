@@ -12,6 +12,7 @@ ghost use Rattle.ocm_world.specs.Running.{AreOf, Ran, Runs};
 
 use crate::asked::{ask_of, fault_of, fault_text, shows_digits};
 use crate::deliveries::{deliver, pump};
+use crate::line_parts::{joined_line, line_of};
 use crate::servers::Servers;
 use ocm_base::{Bytes, NoMemory};
 use ocm_disk::Crash;
@@ -108,9 +109,7 @@ fn opened_line(alloc: Global, line: u32, count: u64) -> Result<Bytes, NoMemory>
     ensures { IfOk result (λ text. text ≡ transcript.opened_line line count) }
 {
     let digits = count.to_string(alloc)?;
-    let mut text = Bytes::of(alloc, b"opened ")?;
-    text.add(digits.as_bytes())?;
-    line_text(alloc, line, text.as_slice())
+    joined_line(alloc, line, b"opened ", digits.as_bytes())
 }
 
 /// A line that asks something of its server, or whose record is faulty, or that is quiet.
@@ -138,10 +137,7 @@ fn run_faulty(alloc: Global, line: u32, event: &Event) -> Result<Bytes, NoMemory
     ensures { IfOk result (λ text. text ≡ transcript.faulty_text line event.now) }
 {
     match fault_of(event) {
-        Some(fault) => {
-            let text = fault_text(alloc, fault)?;
-            line_text(alloc, line, text.as_slice())
-        }
+        Some(fault) => line_of(alloc, line, fault_text(alloc, fault)?),
         None => Ok(Bytes::new(alloc)),
     }
 }
@@ -159,7 +155,11 @@ fn run_ask(
     ensures { IfOk result (λ text. (world : World) → AreOf servers.old world → Runs (λ wanting. transcript.asked (next_wanting wanting) world line digits host.now ask) servers.new text) }
 {
     match servers.ask(host, ask) {
-        Some(reply) => reply_lines(alloc, line, digits, &reply),
+        Some(reply) => {
+            let lines = reply_lines(alloc, line, digits, &reply);
+            drop(reply);
+            lines
+        }
         None => Ok(Bytes::new(alloc)),
     }
 }

@@ -166,10 +166,27 @@ fn shelve(shelf: &mut Shelf, node: Node) -> Result<(), NoMemory>
     ensures { OnOk result (shelf.new ≡ shelf.old ++ shelved node ∷ []) }
 {
     let (host, disk) = node.into_parts();
-    add_place(shelf, &host)?;
-    let _empty = shelf.take(&host);
-    let _held = shelf.put_back(&host, disk);
-    Ok(())
+    let put = put_at(shelf, &host, disk);
+    drop(host);
+    put
+}
+
+/// Puts a disk on the shelf, at a place of its own with this host.
+fn put_at(shelf: &mut Shelf, host: &Host, disk: MemDisk) -> Result<(), NoMemory>
+    ensures { OnOk result (shelf.new ≡ shelf.old ++ record { host = host.now; disk = Some disk } ∷ []) }
+{
+    match add_place(shelf, host) {
+        Ok(()) => {
+            let empty = shelf.take(host);
+            drop(empty);
+            let _held = shelf.put_back(host, disk);
+            Ok(())
+        }
+        Err(NoMemory) => {
+            drop(disk);
+            Err(NoMemory)
+        }
+    }
 }
 
 /// A place for a host, which has none yet.

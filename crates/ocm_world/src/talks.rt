@@ -1,5 +1,5 @@
 //! A connection of a script: its messages one after another, each answered by the server, and the page of each.
-ghost use Rattle.std.specs.Prelude.{◌≡◌, [], ◌++◌, ◌||◌, Bool, codes, nat_eq, IfOk, IfSome, IsTrue};
+ghost use Rattle.std.specs.Prelude.{◌≡◌, [], ◌++◌, ◌||◌, Bool, false, codes, nat_eq, IfOk, IfSome, OnOk, IsTrue};
 ghost use Rattle.std.specs.Result.{result_ok};
 ghost use Rattle.ocm_dav.specs.Routes.{wanted_of};
 ghost use Rattle.ocm_dav.specs.Sound.{is_requested};
@@ -8,20 +8,23 @@ ghost use Rattle.ocm_davmore.specs.Ranges.{is_span};
 ghost use Rattle.ocm_entry.specs.Proper.{is_proper};
 ghost use Rattle.ocm_http.specs.Messages.{IsRequest};
 ghost use Rattle.ocm_http.specs.Written as written;
+ghost use Rattle.ocm_http.specs.declared.messages.Kind.TheVariants.{Requests};
+ghost use Rattle.ocm_limits.specs.Limits.{most_body_bytes};
+ghost use Rattle.ocm_pages.specs.Pages as pages;
 ghost use Rattle.ocm_pages.specs.Pages.{HasPage};
 ghost use Rattle.ocm_world.specs.Running.{GivesLines, IsOf};
 ghost use Rattle.ocm_world.specs.Servers.{Server};
 ghost use Rattle.ocm_world.specs.Talks as talks;
 ghost use Rattle.ocm_world.specs.Talks.{Answers, Says, config_of, replied};
 
+use crate::line_parts::{add, append, joined, joined_line};
 use crate::nodes::Node;
-use ocm_base::{Bytes, Joined, List, MemSink, NoMemory, PureSource, hex_of};
+use ocm_base::{Bytes, Joined, List, MemSink, NoMemory, PureSource, and, hex_of};
 use ocm_dav::{Config, Wanted, ask_of};
 use ocm_entry::{Ask, Reply};
 use ocm_http::{Fixed, FrameFault, Head, Message, Reader, write_fixed};
 use ocm_limits::{LAST_CONNECTION_REQUEST, MOST_BODY_BYTES, MOST_CONNECTION_REQUESTS};
 use ocm_pages::{Shape, page_of};
-use ocm_transcript::line_text;
 use ocm_types::{Fresh, Host};
 use std::alloc::Global;
 
@@ -49,8 +52,7 @@ pub fn talk(
 fn config(alloc: Global, host: &Host) -> Result<Config, NoMemory>
     ensures { IfOk result (λ config. config ≡ config_of host.now) }
 {
-    let host = host.copy()?;
-    let admin = Fresh::new([255; 16]).secret(alloc)?;
+    let (host, admin) = and(host.copy()?, Fresh::new([255; 16]).secret(alloc))?;
     Ok(Config { host, admin })
 }
 
@@ -67,33 +69,49 @@ fn answers(
     ensures { IfOk result (λ text. (server : Server) → IsOf node.old server
         → (after : Server) × Says config.now line fresh 0 0 bytes.now server after text × IsOf node.new after) }
 {
+    let mut source = PureSource::new(bytes.copy()?, PIECE);
     let Ok(mut reader) = Reader::requests(alloc, MOST_BODY_BYTES) else {
+        drop(source);
         return no_memory(alloc, line);
     };
-    let mut source = PureSource::new(bytes.copy()?, PIECE);
+    let text = answers_to(alloc, node, config, line, fresh, &mut reader, &mut source);
+    drop(reader);
+    drop(source);
+    text
+}
+
+/// The messages that a new reader reads of a source, one after another.
+fn answers_to(
+    alloc: Global,
+    node: &mut Node,
+    config: &Config,
+    line: u32,
+    fresh: Fresh,
+    reader: &mut Reader,
+    source: &mut PureSource,
+) -> Result<Bytes, NoMemory>
+    requires stands { (server : Server) × IsOf node.old server }
+    requires begun { reader.old ≡ record { kind = Requests; max = most_body_bytes; place = 0; held = []; failed = false; gone = 0 } }
+    ensures { IfOk result (λ text. (server : Server) → IsOf node.old server
+        → (after : Server) × Says config.now line fresh 0 0 source.old.left server after text × IsOf node.new after) }
+{
     let mut text = Bytes::new(alloc);
     for number in 0..MOST_CONNECTION_REQUESTS {
-        let message = match reader.next(&mut source) {
+        let message = match reader.next(source) {
             Ok(Some(message)) => message,
-            Ok(None) => {
-                let end = end_text(alloc, line, b"closed")?;
-                return ended(text, &end);
-            }
-            Err(fault) => {
-                let end = refused(alloc, line, fault)?;
-                return ended(text, &end);
-            }
+            Ok(None) => return with_end(alloc, line, text, b"closed"),
+            Err(fault) => return with_refusal(alloc, line, text, fault),
         };
-        let (more, is_end) = answer(
+        let (more, is_end) = answer_of(
             alloc,
             node,
             config,
             line,
             fresh.plus(number),
-            &message,
+            message,
             number == LAST_CONNECTION_REQUEST,
         )?;
-        text.add(more.as_slice())?;
+        add(&mut text, more)?;
         if is_end {
             return Ok(text);
         }
@@ -102,13 +120,23 @@ fn answers(
     unreachable!()
 }
 
-/// The lines of a connection, and behind them those of its end.
-fn ended(text: Bytes, end: &Bytes) -> Result<Bytes, NoMemory>
-    ensures { IfOk result (λ all. all ≡ text ++ end.now) }
+/// As [`answer`], and lets the message go.
+fn answer_of(
+    alloc: Global,
+    node: &mut Node,
+    config: &Config,
+    line: u32,
+    fresh: Fresh,
+    message: Message,
+    last: bool,
+) -> Result<(Bytes, bool), NoMemory>
+    requires stands { (server : Server) × IsOf node.old server }
+    requires request { IsRequest message.head }
+    ensures { IfOk result (λ r. (server : Server) → IsOf node.old server → (after : Server) × GivesLines config.now line fresh message last server after r.0 r.1 × IsOf node.new after) }
 {
-    let mut text = text;
-    text.add(end.as_slice())?;
-    Ok(text)
+    let lines = answer(alloc, node, config, line, fresh, &message, last);
+    drop(message);
+    lines
 }
 
 /// The lines of one message, and whether the connection ends with it.
@@ -128,7 +156,7 @@ fn answer(
     match page(alloc, node, config, fresh, message) {
         Ok(page) => {
             let is_end = is_last(last, &message.head);
-            let lines = page_lines(alloc, line, &page, is_end)?;
+            let lines = page_lines(alloc, line, page, is_end)?;
             Ok((lines, is_end))
         }
         Err(NoMemory) => {
@@ -146,15 +174,16 @@ fn is_last(last: bool, head: &Head) -> bool
 }
 
 /// The line of a page, and behind it the line of the end where the connection ends with it.
-fn page_lines(alloc: Global, line: u32, page: &Joined, is_end: bool) -> Result<Bytes, NoMemory>
-    ensures { IfOk result (λ text. text ≡ talks.page_lines line page.now is_end) }
+fn page_lines(alloc: Global, line: u32, page: Joined, is_end: bool) -> Result<Bytes, NoMemory>
+    ensures { IfOk result (λ text. text ≡ talks.page_lines line page is_end) }
 {
-    let mut text = page_line(alloc, line, page)?;
+    let text = page_line(alloc, line, &page);
+    drop(page);
     if is_end {
-        let end = end_text(alloc, line, b"closed")?;
-        text.add(end.as_slice())?;
+        with_end(alloc, line, text?, b"closed")
+    } else {
+        text
     }
-    Ok(text)
 }
 
 /// Whether a connection ends with a message.
@@ -195,10 +224,22 @@ fn asked_page(alloc: Global, node: &mut Node, ask: Ask, shape: &Shape) -> Result
     ensures { (server : Server) → IsOf node.old server → (after : Server) × Answers (wants.Ask ask shape.now) server after (result_ok result) × IsOf node.new after }
 {
     let reply = reply_to(node, ask);
-    if is_no_memory(&reply) {
+    let page = reply_page(alloc, &reply, shape);
+    drop(reply);
+    page
+}
+
+/// The page of a reply: out of memory has none.
+fn reply_page(alloc: Global, reply: &Reply, shape: &Shape) -> Result<Joined, NoMemory>
+    requires page { HasPage reply.now }
+    requires range { IfSome shape.now.range (λ span. IsTrue (is_span span)) }
+    ensures had { OnOk result (talks.is_no_memory reply.now ≡ false) }
+    ensures page { IfOk result (λ bytes. bytes ≡ (pages.page_of reply.now shape.now).bytes) }
+{
+    if is_no_memory(reply) {
         return Err(NoMemory);
     }
-    match page_of(alloc, &reply, shape) {
+    match page_of(alloc, reply, shape) {
         Ok(page) => Ok(page.bytes),
         Err(NoMemory) => Err(NoMemory),
     }
@@ -249,18 +290,30 @@ fn raw_line(alloc: Global, line: u32, bytes: &[u8]) -> Result<Bytes, NoMemory>
     ensures { IfOk result (λ text. text ≡ talks.raw_line line bytes.now) }
 {
     let digits = hex_of(alloc, bytes)?;
-    let mut text = Bytes::of(alloc, b"raw ")?;
-    text.add(digits.as_str().as_bytes())?;
-    line_text(alloc, line, text.as_slice())
+    joined_line(alloc, line, b"raw ", digits.as_str().as_bytes())
+}
+
+/// A text, and behind it the line of how a connection ended.
+fn with_end(alloc: Global, line: u32, text: Bytes, how: &[u8]) -> Result<Bytes, NoMemory>
+    ensures { IfOk result (λ all. all ≡ text ++ talks.end_line line how.now) }
+{
+    let (text, end) = and(text, end_text(alloc, line, how))?;
+    append(text, end)
+}
+
+/// A text, and behind it the lines where bytes are no message.
+fn with_refusal(alloc: Global, line: u32, text: Bytes, fault: FrameFault) -> Result<Bytes, NoMemory>
+    ensures { IfOk result (λ all. all ≡ text ++ talks.refused_lines line fault) }
+{
+    let (text, end) = and(text, refused(alloc, line, fault))?;
+    append(text, end)
 }
 
 /// The line of how a connection ended.
 fn end_text(alloc: Global, line: u32, how: &[u8]) -> Result<Bytes, NoMemory>
     ensures { IfOk result (λ text. text ≡ talks.end_line line how.now) }
 {
-    let mut text = Bytes::of(alloc, b"end ")?;
-    text.add(how)?;
-    line_text(alloc, line, text.as_slice())
+    joined_line(alloc, line, b"end ", how)
 }
 
 /// The lines where bytes are no message.
@@ -285,8 +338,7 @@ fn bad(alloc: Global, line: u32, place: u64) -> Result<Bytes, NoMemory>
     ensures { IfOk result (λ text. text ≡ talks.bad_lines line place) }
 {
     let digits = place.to_string(alloc)?;
-    let mut how = Bytes::of(alloc, b"bad ")?;
-    how.add(digits.as_bytes())?;
+    let how = joined(alloc, b"bad ", digits.as_bytes())?;
     fixed(alloc, line, Fixed::Bad, how.as_slice())
 }
 
@@ -302,10 +354,9 @@ fn fixed(alloc: Global, line: u32, which: Fixed, how: &[u8]) -> Result<Bytes, No
     ensures { IfOk result (λ text. text ≡ talks.fixed_lines line which how.now) }
 {
     let bytes = fixed_bytes(alloc, which)?;
-    let mut text = raw_line(alloc, line, bytes.as_slice())?;
-    let end = end_text(alloc, line, how)?;
-    text.add(end.as_slice())?;
-    Ok(text)
+    let text = raw_line(alloc, line, bytes.as_slice());
+    drop(bytes);
+    with_end(alloc, line, text?, how)
 }
 
 /// The bytes of a fixed reply.
@@ -315,6 +366,9 @@ fn fixed_bytes(alloc: Global, which: Fixed) -> Result<Bytes, NoMemory>
     let mut sink = MemSink::new(alloc, PIECE, List::new(alloc), PIECE)?;
     match write_fixed(&mut sink, which) {
         Ok(()) => Ok(sink.into_bytes()),
-        Err(_) => Err(NoMemory),
+        Err(_) => {
+            drop(sink);
+            Err(NoMemory)
+        }
     }
 }

@@ -22,6 +22,7 @@ ghost use Rattle.ocm_world.specs.Traces.{Logged, Traces, TracesPart, log_input};
 ghost use Rattle.ocm_world.specs.Transcript.{IsRun};
 
 use crate::asked::dav_ask;
+use crate::line_parts::add;
 use crate::replays::WorldFault;
 use crate::runs::run;
 use crate::servers::Servers;
@@ -102,7 +103,7 @@ fn log_events(
     let mut number = 1;
     for event in events {
         let line = log_event(alloc, servers, number, host, event)?;
-        log.add(line.as_slice())?;
+        add(&mut log, line)?;
         number += 1;
     }
     Ok(log)

@@ -1,26 +1,13 @@
 //! The program `ocmd`: its commands over standard input and standard output.
 #![tactic(auto)]
 
-mod audits;
-mod checks;
-mod commands;
-mod drills;
-mod ends;
-mod help;
-mod lines;
-mod logchecks;
 mod remotes;
-mod scripts;
 mod servers;
-#[cfg(test)]
-mod tests;
-mod traces;
-mod words;
 
-use crate::commands::{command, usage};
 use crate::remotes::{asks_remote, run_remote, told};
 use crate::servers::{asks_serve, run_server};
 use ocm_base::{StdSink, StdSource};
+use ocm_commands::{command, usage};
 use ocm_disk::Shelf;
 use ocm_serve::StandIns;
 use std::io::ErrorKind;

@@ -3,10 +3,10 @@ ghost use Rattle.std.specs.Prelude.{◌≡◌, ◌⊎◌, None};
 ghost use Rattle.ocm_base.specs.Outside.{Appends, Rose};
 ghost use Rattle.ocm_options.specs.Plans.{plan_of, texts};
 ghost use Rattle.ocm_serve.specs.Runs.{IsStatus};
-ghost use Rattle.ocmd.specs.Commands.{usage_line};
+ghost use Rattle.ocm_commands.specs.Commands.{usage_line};
 
-use crate::commands::usage;
 use ocm_base::Sink;
+use ocm_commands::usage;
 use ocm_options::{PlanFault, read_plan};
 use ocm_serve::run;
 use std::alloc::Global;

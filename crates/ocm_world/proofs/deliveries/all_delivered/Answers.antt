@@ -9,7 +9,7 @@ loop-message-init c = record { place = refl; goes_on = rw c.new-text.ensures (Go
 pub loop-message-preserved : goal.loop-message-preserved
 loop-message-preserved c = record {
   place = ap (λ k. k + 1) c.loop-message.invariant.place;
-  goes_on = rw (c.in_ok-add.ensures.ok, c.as_slice.ensures)
+  goes_on = rw c.in_ok-add.ensures
       (GoesOn-more _ _ _ _ _ _ _ _ _ _ _ _
       (GoesOn-at _ _ _ _ _ _ _ _ c.loop-message.message-index c.message-item.result _ (omega arith) c.message-item.is c.loop-message.invariant.goes_on)
       (rw (← c.plus.ensures.value) c.in_ok-more.ensures));

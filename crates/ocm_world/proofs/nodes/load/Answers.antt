@@ -1,8 +1,7 @@
-use Rattle.std.proofs.Common.{◌≡◌, refl, sym, ap, ◌∙◌, subst, List, ℕ, [], Option}
+use Rattle.std.proofs.Common.{◌≡◌, refl, sym, ◌∙◌, subst, ℕ, List, [], Option}
 use Rattle.ocm_disk.specs.Fuse.{CanBurn}
-use Rattle.ocm_disk.specs.Memory.{DiskState}
 use Rattle.ocm_law_sessions.specs.Sessions.{IsSession}
-use Rattle.ocm_store.specs.Opening.{IsOfArea, IsSaidBy, OpensTo, loading}
+use Rattle.ocm_store.specs.Opening.{OpensTo}
 use Rattle.ocm_store.specs.Stores.{area_of, disk_of, terms_of}
 use Rattle.ocm_store.specs.declared.terms.Terms.{Terms}
 use Rattle.ocm_world.specs.Servers.{area}
@@ -10,31 +9,26 @@ use Rattle.ocm_world.proofs.Acting.{sound-loaded}
 use Rattle.ocm_world.proofs.Loading.{loaded-area, wants-memory}
 use Rattle.ocm_world.proofs.nodes.load.Goals as goal
 
-pub returns-in-Ok : goal.returns-in-Ok
-returns-in-Ok c =
-    let own = c.in_ok-copy.ensures in
-    let host = c.in-Ok.ensures.host ∙ own in
-    let opened = c.in-Ok.ensures.opened in
-    let seen = ap (λ (d : DiskState). d.images.seen) c.disk.view_is in
-    let of_area : IsOfArea c.in_ok-copy.field-0 area (area_of c.in-Ok.store) c.args.disk.images.seen =
-    subst (λ (b : List ℕ). IsOfArea c.in_ok-copy.field-0 area (area_of c.in-Ok.store) b) seen (c.in-Ok.ensures.area tt) in
-    let sized = loaded-area c.args.host.now c.in_ok-copy.field-0 c.args.disk.images.seen (area_of c.in-Ok.store) own c.requires.own of_area in
-    let terms : terms_of c.in-Ok.store ≡ record { host = c.args.host.now; area = area } = λ i. record { host = host i; area = sized i } in
+pub returns-in-Ok-load : goal.returns-in-Ok-load
+returns-in-Ok-load c =
+    let bytes = c.args.disk.images.seen in
+    let own = c.in-Ok.ensures.1 in
+    let host = c.in-Ok-load.ensures.host ∙ own in
+    let opened = c.in-Ok-load.ensures.opened in
+    let sized = loaded-area c.args.host.now c.in-Ok.label bytes (area_of c.in-Ok-load.store) own c.requires.own (c.in-Ok-load.ensures.area tt) in
+    let terms : terms_of c.in-Ok-load.store ≡ record { host = c.args.host.now; area = area } = λ i. record { host = host i; area = sized i } in
     record {
-      host = c.in_ok-own.ensures;
+      host = c.in-Ok.ensures.0;
       clock = refl;
       terms = terms;
       opened = opened.0;
-      opens = subst (λ (z : List ℕ × List ℕ). OpensTo z.0 area opened.0 z.1) (λ i. (own i, seen i)) (opened.3 tt).1;
+      opens = subst (λ (h : List ℕ). OpensTo h area opened.0 bytes) own (opened.3 tt).1;
       stands = opened.1;
       legal = subst (λ (t : Terms). IsSession t.host t.area opened.0 []) terms opened.2;
-      sound = sound-loaded c.args.disk (disk_of c.in-Ok.store) c.requires.sound (c.in-Ok.ensures.count ∙ ap (λ (d : DiskState). d.faults) c.disk.view_is)
-          (λ all. c.in-Ok.ensures.passes (λ n. subst (λ (d : DiskState). CanBurn d.fuse n) (sym c.disk.view_is) (all n)));
+      sound = sound-loaded c.args.disk (disk_of c.in-Ok-load.store) c.requires.sound c.in-Ok-load.ensures.count c.in-Ok-load.ensures.passes;
     }
 
 pub no_memory-requires : goal.no_memory-requires
 no_memory-requires c =
-    let seen = ap (λ (d : DiskState). d.images.seen) c.disk.view_is in
-    wants-memory c.args.host.now c.in_ok-copy.field-0 c.args.disk.images.seen c.in-Err.fault c.in_ok-copy.ensures c.requires.own
-    (subst (λ (b : List ℕ). IsSaidBy (loading c.in_ok-copy.field-0 area b) c.in-Err.fault) seen (c.in-Err.ensures.says tt))
-    (c.in-Err.ensures.unfailing (λ n. let P : Option ℕ → Type 0 = λ f. CanBurn f n in subst P (sym (ap (λ (d : DiskState). d.fuse) c.disk.view_is ∙ c.requires.sound.fuse)) tt))
+    wants-memory c.args.host.now c.in-Ok.label c.args.disk.images.seen c.in-Err.fault c.in-Ok.ensures.1 c.requires.own (c.in-Err.ensures.says tt)
+    (c.in-Err.ensures.unfailing (λ n. let P : Option ℕ → Type 0 = λ f. CanBurn f n in subst P (sym c.requires.sound.fuse) tt))

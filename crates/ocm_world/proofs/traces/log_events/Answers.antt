@@ -1,4 +1,4 @@
-use Rattle.std.proofs.Common.{refl, arith, rules, ap, ◌∙◌, ◌++◌}
+use Rattle.std.proofs.Common.{refl, arith, rules}
 use Rattle.std.proofs.lemmas.List.{drop_all}
 use Rattle.ocm_world.proofs.Chains.{LeadsOn-at, LeadsOn-end, LeadsOn-start}
 use Rattle.ocm_world.proofs.Logging.{LogLeads-more}
@@ -12,7 +12,7 @@ loop-event-preserved c = record {
   line = search rules;
   leads = LogLeads-more _ _ _ _ c.args.host.now _ _ c.loop-event.log _ _
       (LeadsOn-at _ _ _ _ _ c.loop-event.event-index c.event-item.result _ (omega arith) c.event-item.is c.loop-event.invariant.leads)
-      c.in_ok-line.ensures (c.in_ok-add.ensures.ok ∙ ap (λ t. c.loop-event.log ++ t) c.as_slice.ensures);
+      c.in_ok-line.ensures c.in_ok-add.ensures;
 }
 
 pub returns : goal.returns

@@ -1,11 +1,11 @@
-use Rattle.std.proofs.Common.{◌≡◌, List, Some, get_or, set, sym, ap, ◌∙◌, subst, true}
+use Rattle.std.proofs.Common.{◌≡◌, List, get_or, set, sym, ap, ◌∙◌, subst, true}
 use Rattle.std.specs.Prelude.{option_map}
 use Rattle.std.specs.List.{insert, remove}
 use Rattle.ocm_rules.specs.Lean.{count}
 use Rattle.ocm_world.specs.declared.nodes.Node.{Node}
 use Rattle.ocm_world.specs.Running.{AreOf, IsOf}
 use Rattle.ocm_world.specs.Servers.{Server, crashed, history, step_at}
-use Rattle.ocm_world.proofs.Worlds.{AreOf-nowhere, found-within, found_at, found_nowhere, put_again}
+use Rattle.ocm_world.proofs.Worlds.{AreOf-nowhere, found-within, found_at, found_nowhere, kept-found, put_again}
 use Rattle.ocm_world.proofs.servers.Servers.crash.Goals as goal
 
 pub restart-requires : goal.restart-requires
@@ -33,6 +33,6 @@ returns c = λ world are.
     let items : c.insert.new.self.items ≡ set c.args.self.now c.in-Some.place c.in_ok-node.node =
     c.in_ok-insert.ensures.items ∙ ap (λ (l : List Node). insert l c.in-Some.place c.in_ok-node.node) out ∙ put_again c.args.self.now c.in-Some.place c.in_ok-node.node within in (
       kept.0,
-      ap Some (c.kept-count.ensures (crashed kept.0 here.server) kept.1) ∙ sym (ap (option_map (λ (s : Server). count (crashed kept.0 s).host (history (crashed kept.0 s)))) here.there),
+      kept-found kept.0 world c.args.host.now here.server c.kept-count.result (c.kept-count.ensures (crashed kept.0 here.server) kept.1) here.there,
       subst (λ (l : List Node). AreOf l (step_at (crashed kept.0) world c.args.host.now)) (sym items) (here.stepped c.in_ok-node.node (crashed kept.0) kept.1),
     )

@@ -1,0 +1,3 @@
+pub mod Drilled
+pub mod Parts
+pub mod Spellings

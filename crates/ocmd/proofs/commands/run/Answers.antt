@@ -1,9 +1,0 @@
-use Rattle.std.proofs.lemmas.Result.{on_err_weaker}
-use Rattle.ocmd.specs.Commands.{WritesPart}
-use Rattle.ocmd.specs.Words.{input_of}
-use Rattle.ocmd.proofs.Drilled.{on-input}
-use Rattle.ocmd.proofs.commands.run.Goals as goal
-
-pub returns-in-Ok-clause-part : goal.returns-in-Ok-clause-part
-returns-in-Ok-clause-part g c =
-    on_err_weaker c.run_on.result (λ part. on-input (input_of c.args.command.now (g.S.Source.left c.args.source.now)) c.in-Ok.bytes (λ bytes. WritesPart c.args.command.now bytes (g.K.Sink.taken c.args.sink.now) (g.K.Sink.taken c.run_on.new.sink)) c.in-Ok.ensures.input part) c.run_on.ensures.part
