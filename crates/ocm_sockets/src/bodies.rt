@@ -53,6 +53,30 @@ fn is_word(text: &[u8], word: &str) -> bool
     text.eq_ignore_ascii_case(word.as_bytes())
 }
 
+/// Whether a line begins with this word, in any case.
+fn begins_as(line: &[u8], word: &[u8]) -> bool {
+    match line.get(..word.len()) {
+        Some(front) => front.eq_ignore_ascii_case(word),
+        None => false,
+    }
+}
+
+/// Whether a line of a head may be a field that tells of a body (RFC 9112 section 6.3). Where none is, a request ends
+/// with its head, also one that is refused.
+pub fn may_announce(head: &[u8]) -> bool {
+    let mut rest = head;
+    for _ in 0..=head.len() {
+        if begins_as(rest, b"content-length") || begins_as(rest, b"transfer-encoding") {
+            return true;
+        }
+        let Some(end) = rest.iter().position(|byte| *byte == b'\n') else {
+            return false;
+        };
+        rest = rest.get(end.saturating_add(1)..).unwrap_or_default();
+    }
+    true
+}
+
 fn is_expecting(field: &Field) -> bool
     ensures { result ≡ bodies.is_expecting field.now }
 {

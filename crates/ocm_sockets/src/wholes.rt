@@ -4,7 +4,7 @@
 //! held for too long is dropped.
 ghost use Rattle.std.specs.Prelude.{◌≡◌, ◌≤◌, IfSome, false, length};
 
-use crate::bodies::{Announced, body_announced};
+use crate::bodies::{Announced, body_announced, may_announce};
 use ocm_heads::{ChunkLine, Found, Length, Look as Search, read_chunk_line};
 use ocm_limits::MOST_BODY_BYTES;
 use std::alloc::Global;
@@ -63,8 +63,8 @@ impl Look {
     }
 
     /// How many bytes the first request has, where it is whole, or all of these, where it has a fault so far. Those that
-    /// were looked at before are the front of these. A head is read once, when it is whole, and each other byte is looked
-    /// at once, those of a chunk line that isn't whole aside. Where there is no memory to read a head, all of these are
+    /// were looked at before are the front of these. A head that tells of a body is read once, when it is whole, and each
+    /// other byte is looked at once, those of a chunk line that isn't whole aside. Where there is no memory to read a head, all of these are
     /// handed over too: the reader has an answer to that.
     pub fn message_end(&mut self, alloc: Global, bytes: &[u8]) -> Option<usize>
         ensures { IfSome result (λ n. n ≤ length bytes.now) }
@@ -107,12 +107,21 @@ impl Look {
                 return false;
             }
             Found::TooLong(_) => self.part = Part::Fault,
-            Found::Whole(len) => match body_announced(alloc, bytes) {
-                Ok(Some(told)) => self.pass_body(len, told),
-                Ok(None) | Err(_) => self.part = Part::Fault,
-            },
+            Found::Whole(len) => self.end_head(alloc, len, bytes),
         }
         true
+    }
+
+    /// Ends the head, of whose rest there are so many bytes. One that tells of no body is not read here.
+    fn end_head(&mut self, alloc: Global, len: usize, bytes: &[u8]) {
+        let head = bytes.get(..self.place.saturating_add(len)).unwrap_or(bytes);
+        if !may_announce(head) {
+            return self.go(len, Part::End);
+        }
+        match body_announced(alloc, bytes) {
+            Ok(Some(told)) => self.pass_body(len, told),
+            Ok(None) | Err(_) => self.part = Part::Fault,
+        }
     }
 
     /// Passes over the rest of a head, of so many bytes, and over a body that doesn't come in chunks.
