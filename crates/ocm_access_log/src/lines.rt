@@ -12,7 +12,7 @@ use ocm_entry::Ask;
 use std::alloc::Global;
 
 /// A line of a log: what a read was answered.
-#[derive(Debug, Drop, PartialEq, Eq)]
+#[derive(Debug, PartialEq, Eq)]
 pub struct LogLine {
     /// How many entries that are no tick were kept when it was answered.
     pub place: u64,
@@ -22,6 +22,17 @@ pub struct LogLine {
     pub ask: Ask,
     /// The status of its reply.
     pub status: u16,
+}
+
+impl Drop for LogLine {
+    fn drop(self) {
+        let LogLine {
+            place: _,
+            moment: _,
+            ask: _,
+            status: _,
+        } = self;
+    }
 }
 
 /// The words of a line.

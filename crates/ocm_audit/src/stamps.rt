@@ -7,7 +7,7 @@ use ocm_spelling::{EntryFault, decode};
 use std::alloc::Global;
 
 /// What a record of a journal says.
-#[derive(Debug, Drop)]
+#[derive(Debug)]
 pub enum Stamped {
     /// In an area of form 1: an ask without a moment.
     Bare(Ask),
@@ -15,6 +15,16 @@ pub enum Stamped {
     Moment(u64),
     /// In an area of form 2: a moment, and an ask that is no Tick.
     Timed(u64, Ask),
+}
+
+impl Drop for Stamped {
+    fn drop(self) {
+        match self {
+            Stamped::Bare(_) => {}
+            Stamped::Moment(_) => {}
+            Stamped::Timed(_, _) => {}
+        }
+    }
 }
 
 impl Stamped {

@@ -1,9 +1,14 @@
 use std::sync::atomic::{AtomicBool, Ordering};
 
 /// A gate between threads, which is set once. Contracts know nothing of it.
-#[derive(Drop)]
 pub struct Gate {
     is_set: AtomicBool,
+}
+
+impl Drop for Gate {
+    fn drop(self) {
+        let Gate { is_set: _ } = self;
+    }
 }
 
 impl Gate {

@@ -37,7 +37,7 @@ pub fn hex_of(alloc: Global, s: &[u8]) -> Result<Text, NoMemory>
     ensures two_each { IfOk result (λ t. length t ≡ 2 * length s.now) }
     ensures reads_back { IfOk result (λ t. hex_text_of t ≡ Some s.now) }
 {
-    let mut held = String::new(alloc);
+    let mut held = String::with_capacity(alloc, s.len().saturating_mul(2))?;
     for b in s {
         held.push(hex_digit_of(b / 16))?;
         held.push(hex_digit_of(b % 16))?;

@@ -8,10 +8,16 @@ use std::alloc::Global;
 use std::marker::Model;
 
 /// Bytes in two parts, of which the second may be shared and is not copied. Contracts see them as one list.
-#[derive(Debug, Drop)]
+#[derive(Debug)]
 pub struct Joined {
     front: Bytes,
     back: Bytes,
+}
+
+impl Drop for Joined {
+    fn drop(self) {
+        let Joined { front: _, back: _ } = self;
+    }
 }
 
 impl Model for Joined {

@@ -8,9 +8,15 @@ use std::hash::{Hash, Hasher};
 use std::marker::Model;
 
 /// A list that grows at its end. Contracts see the list of its elements.
-#[derive(Debug, Drop)]
+#[derive(Debug)]
 pub struct List<T> {
     items: Vec<T>,
+}
+
+impl<T: Drop> Drop for List<T> {
+    fn drop(self) {
+        let List { items: _ } = self;
+    }
 }
 
 impl<T> Model for List<T> {
@@ -42,7 +48,8 @@ impl<T> List<T> {
     pub fn into_vec(self) -> Vec<T>
         ensures { result.items ≡ self }
     {
-        self.items
+        let List { items } = self;
+        items
     }
 
     /// The allocator that it grows by.

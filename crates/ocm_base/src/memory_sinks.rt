@@ -11,7 +11,6 @@ use std::marker::Model;
 
 /// A sink in memory that was taken at once, so that no write takes any. It fails at the calls that are listed, and
 /// where it is full. It tells what it has taken.
-#[derive(Drop)]
 pub struct MemSink {
     held: Vec<u8>,
     piece: usize,
@@ -19,6 +18,19 @@ pub struct MemSink {
     calls: u64,
     faults: u64,
     room: usize,
+}
+
+impl Drop for MemSink {
+    fn drop(self) {
+        let MemSink {
+            held: _,
+            piece: _,
+            fails: _,
+            calls: _,
+            faults: _,
+            room: _,
+        } = self;
+    }
 }
 
 impl Model for MemSink {
@@ -68,7 +80,15 @@ impl MemSink {
     pub fn into_bytes(self) -> Bytes
         ensures { Some result ≡ ⟦<MemSink as Sink>⟧.taken self }
     {
-        Bytes::from_vec(self.held)
+        let MemSink {
+            held,
+            piece: _,
+            fails: _,
+            calls: _,
+            faults: _,
+            room: _,
+        } = self;
+        Bytes::from_vec(held)
     }
 }
 

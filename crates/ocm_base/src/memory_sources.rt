@@ -9,7 +9,6 @@ use crate::outside::Source;
 use std::marker::Model;
 
 /// A source over bytes in memory, which fails at the calls that are listed. It tells what it has left.
-#[derive(Drop)]
 pub struct MemSource {
     bytes: Bytes,
     place: usize,
@@ -17,6 +16,19 @@ pub struct MemSource {
     fails: List<u64>,
     calls: u64,
     faults: u64,
+}
+
+impl Drop for MemSource {
+    fn drop(self) {
+        let MemSource {
+            bytes: _,
+            place: _,
+            piece: _,
+            fails: _,
+            calls: _,
+            faults: _,
+        } = self;
+    }
 }
 
 impl Model for MemSource {
@@ -98,11 +110,20 @@ fn give(bytes: &[u8], place: usize, most: usize, buf: &mut [u8]) -> usize
 }
 
 /// A source over bytes in memory that never fails. It tells what it has left.
-#[derive(Drop)]
 pub struct PureSource {
     bytes: Bytes,
     place: usize,
     piece: usize,
+}
+
+impl Drop for PureSource {
+    fn drop(self) {
+        let PureSource {
+            bytes: _,
+            place: _,
+            piece: _,
+        } = self;
+    }
 }
 
 impl Model for PureSource {

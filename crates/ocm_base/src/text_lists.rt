@@ -11,9 +11,15 @@ use std::hash::{Hash, Hasher};
 use std::marker::Model;
 
 /// A text. Contracts see it as the list of its bytes in UTF-8.
-#[derive(Debug, Drop)]
+#[derive(Debug)]
 pub struct Text {
     held: String,
+}
+
+impl Drop for Text {
+    fn drop(self) {
+        let Text { held: _ } = self;
+    }
 }
 
 impl Model for Text {

@@ -4,10 +4,15 @@ use std::marker::Model;
 use std::snapshot::Snapshot;
 
 /// A list that only clauses see: it keeps no item.
-#[derive(Drop)]
 #[cycle(trace)]
 pub struct Trace<T> {
     link: Link<T>,
+}
+
+impl<T: Drop> Drop for Trace<T> {
+    fn drop(self) {
+        let Trace { link: _ } = self;
+    }
 }
 
 #[derive(Drop)]

@@ -23,13 +23,24 @@ use std::sync::ledger::{Blank, Ledger};
 /// The shares of one server, numbered from 1 in the order in which they were made, and the moment.
 /// Contracts see the shares with what became of them, the moment, and how many more shares can be
 /// made without memory. There are at most 65,536 shares.
-#[derive(Drop)]
 pub struct Chain {
     rows: Rows,
     secrets: SecretIndex,
     requests: RequestIndex,
     owners: OwnerIndex,
     moment: u64,
+}
+
+impl Drop for Chain {
+    fn drop(self) {
+        let Chain {
+            rows: _,
+            secrets: _,
+            requests: _,
+            owners: _,
+            moment: _,
+        } = self;
+    }
 }
 
 impl Model for Chain {

@@ -15,11 +15,16 @@ pub struct OwnedLink {
 }
 
 /// The owners of the shares, by number from 1 on.
-#[derive(Drop)]
 pub struct OwnerIndex {
     links: Vec<OwnedLink>,
     /// The number of each owner's last share.
     last: HashMap<u32, u32>,
+}
+
+impl Drop for OwnerIndex {
+    fn drop(self) {
+        let OwnerIndex { links: _, last: _ } = self;
+    }
 }
 
 impl Model for OwnerIndex {

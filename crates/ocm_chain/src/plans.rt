@@ -7,11 +7,20 @@ use std::marker::Model;
 
 /// A share that can be made without memory: the share, and once more what it is found by. Contracts
 /// see the share.
-#[derive(Drop)]
 pub struct PlannedShare {
     share: Share,
     secret: Secret,
     sender_id: Option<SenderId>,
+}
+
+impl Drop for PlannedShare {
+    fn drop(self) {
+        let PlannedShare {
+            share: _,
+            secret: _,
+            sender_id: _,
+        } = self;
+    }
 }
 
 impl Model for PlannedShare {
@@ -32,7 +41,12 @@ impl PlannedShare {
         ensures secret { result.1 ≡ self.secret }
         ensures sender_id { result.2 ≡ self.sender_id }
     {
-        (self.share, self.secret, self.sender_id)
+        let PlannedShare {
+            share,
+            secret,
+            sender_id,
+        } = self;
+        (share, secret, sender_id)
     }
 }
 

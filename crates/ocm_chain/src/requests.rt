@@ -19,9 +19,14 @@ pub struct RequestEntry {
 
 /// The numbers of shares by the requests for which they were made, in the order of the parents and
 /// then of the bytes of the senders' marks.
-#[derive(Drop)]
 pub struct RequestIndex {
     entries: Vec<RequestEntry>,
+}
+
+impl Drop for RequestIndex {
+    fn drop(self) {
+        let RequestIndex { entries: _ } = self;
+    }
 }
 
 impl Model for RequestIndex {

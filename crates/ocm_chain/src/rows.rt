@@ -23,9 +23,14 @@ use std::sync::ledger::Ledger;
 
 /// The shares with what became of them and what is left of them, numbered from 1. Contracts see the
 /// shares with what became of them, and how many more can be added without memory.
-#[derive(Drop)]
 pub struct Rows {
     rows: Vec<Row>,
+}
+
+impl Drop for Rows {
+    fn drop(self) {
+        let Rows { rows: _ } = self;
+    }
 }
 
 impl Model for Rows {

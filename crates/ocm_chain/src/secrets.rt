@@ -19,9 +19,14 @@ pub struct SecretEntry {
 
 /// The numbers of shares by their secrets, in the order of the secrets' bytes. Contracts see the
 /// entries in this order, and how many more it takes without memory.
-#[derive(Drop)]
 pub struct SecretIndex {
     entries: Vec<SecretEntry>,
+}
+
+impl Drop for SecretIndex {
+    fn drop(self) {
+        let SecretIndex { entries: _ } = self;
+    }
 }
 
 impl Model for SecretIndex {

@@ -13,9 +13,15 @@ use std::marker::Model;
 ///
 /// Offers are numbered from 1. Contracts see the list of what was told, and how many more rows can be
 /// added without memory.
-#[derive(Debug, Drop)]
+#[derive(Debug)]
 pub struct Board {
     rows: Vec<Told>,
+}
+
+impl Drop for Board {
+    fn drop(self) {
+        let Board { rows: _ } = self;
+    }
 }
 
 impl Model for Board {

@@ -20,7 +20,6 @@ pub enum GateEvent {
 }
 
 /// A source in memory that gives no byte from a place on until a gate is set.
-#[derive(Drop)]
 pub struct GateSource {
     source: MemSource,
     given: usize,
@@ -30,11 +29,29 @@ pub struct GateSource {
     faults: u64,
 }
 
+impl Drop for GateSource {
+    fn drop(self) {
+        let GateSource {
+            source: _,
+            given: _,
+            hold: _,
+            wait: _,
+            set: _,
+            faults: _,
+        } = self;
+    }
+}
+
 /// A sink in memory that sets a gate with its first byte.
-#[derive(Drop)]
 pub struct GateSink {
     sink: MemSink,
     set: Option<Arc<Gate, Global>>,
+}
+
+impl Drop for GateSink {
+    fn drop(self) {
+        let GateSink { sink: _, set: _ } = self;
+    }
 }
 
 /// A connection in memory that waits for a gate at one place of what it gives, and sets another.

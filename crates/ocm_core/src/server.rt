@@ -25,9 +25,14 @@ use std::marker::Model;
 /// The state of one server after its history. Contracts see the lists that the history comes to, for
 /// how many more rows there is room, how many of its entries are kept, and which of these put what stands.
 /// The lists are always those of some legal history, so its messages have numbers.
-#[derive(Drop)]
 pub struct Core {
     tables: Tables,
+}
+
+impl Drop for Core {
+    fn drop(self) {
+        let Core { tables: _ } = self;
+    }
 }
 
 impl Model for Core {

@@ -14,10 +14,16 @@ use std::alloc::Global;
 use std::marker::Model;
 
 /// A client of one server's files, which shows one secret. Contracts see where the server gives files, and the secret.
-#[derive(Debug, Drop)]
+#[derive(Debug)]
 pub struct Client {
     site: Site,
     secret: Secret,
+}
+
+impl Drop for Client {
+    fn drop(self) {
+        let Client { site: _, secret: _ } = self;
+    }
 }
 
 impl Model for Client {

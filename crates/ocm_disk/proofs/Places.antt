@@ -5,6 +5,7 @@ use Rattle.std.proofs.lemmas.Bool.{eq-eqb, ne_eqb}
 use Rattle.std.proofs.lemmas.List.{set-get_or}
 use Rattle.std.proofs.lemmas.List.Quantifiers.{position-Some}
 use Rattle.std.proofs.lemmas.List.Sums.{fails_before_first}
+use Rattle.ocm_limits.specs.Limits.{most_servers}
 use Rattle.ocm_disk.specs.Memory.{DiskState}
 use Rattle.ocm_disk.specs.Shelf.{is_of, has_place, disk_of, is_vacant, with_disk, refusal, IsTold}
 use Rattle.ocm_disk.specs.declared.shelf.Place.{Place}
@@ -95,20 +96,20 @@ never false false e = (cc)
 pub told : (host : List ℕ) (places : List Place) (fault : ShelfFault) → refusal host places ≡ Some fault → IsTold fault (refusal host places)
 told host places Taken e = e
 told host places Full e = e
-told host places NoMemory e = absurd (never (has_place host places) (length places == 16) e)
+told host places NoMemory e = absurd (never (has_place host places) (length places == most_servers) e)
 
 pub refused_taken : (host : List ℕ) (places : List Place) → has_place host places ≡ true → Some Taken ≡ refusal host places
-refused_taken host places has = sym (ap (λ (b : Bool). if b then Some Taken else (if length places == 16 then Some Full else None)) has)
+refused_taken host places has = sym (ap (λ (b : Bool). if b then Some Taken else (if length places == most_servers then Some Full else None)) has)
 
-pub refused_full : (host : List ℕ) (places : List Place) → has_place host places ≡ false → length places ≡ 16 → Some Full ≡ refusal host places
+pub refused_full : (host : List ℕ) (places : List Place) → has_place host places ≡ false → length places ≡ most_servers → Some Full ≡ refusal host places
 refused_full host places has full =
-    sym (ap (λ (b : Bool). if b then Some Taken else (if length places == 16 then Some Full else None)) has
-    ∙ ap (λ (b : Bool). if b then Some Full else None) (eq-eqb (length places) 16 full))
+    sym (ap (λ (b : Bool). if b then Some Taken else (if length places == most_servers then Some Full else None)) has
+    ∙ ap (λ (b : Bool). if b then Some Full else None) (eq-eqb (length places) most_servers full))
 
-pub not_refused : (host : List ℕ) (places : List Place) → has_place host places ≡ false → (length places ≡ 16 → ⊥) → None ≡ refusal host places
+pub not_refused : (host : List ℕ) (places : List Place) → has_place host places ≡ false → (length places ≡ most_servers → ⊥) → None ≡ refusal host places
 not_refused host places has free =
-    sym (ap (λ (b : Bool). if b then Some Taken else (if length places == 16 then Some Full else None)) has
-    ∙ ap (λ (b : Bool). if b then Some Full else None) (ne_eqb (length places) 16 free))
+    sym (ap (λ (b : Bool). if b then Some Taken else (if length places == most_servers then Some Full else None)) has
+    ∙ ap (λ (b : Bool). if b then Some Full else None) (ne_eqb (length places) most_servers free))
 
 -- the place of the host is filled, or stays
 pub filled : (host : List ℕ) (places : List Place) (at : ℕ) (old new : Place) (disk : DiskState) (empty : Bool) → StandsAt host places at old → old ≡ get_or places at old

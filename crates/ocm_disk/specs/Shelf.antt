@@ -1,6 +1,7 @@
 -- The places of a shelf.
 use Rattle.std.specs.Prelude.{◌≡◌, ◌==◌, ℕ, List, [], ◌∷◌, length, Bool, false, bytes_eq, is_none, Option, Some, None, option_map, if◌then◌else◌}
 use Rattle.std.specs.List.{list_any}
+use Rattle.ocm_limits.specs.Limits.{most_servers}
 use Rattle.ocm_disk.specs.Memory.{DiskState}
 use Rattle.ocm_disk.specs.declared.shelf.Place.{Place}
 use Rattle.ocm_disk.specs.declared.shelf.ShelfFault.{ShelfFault}
@@ -31,7 +32,7 @@ with_disk host disk (place ∷ places) = if is_of host place then record { host 
 
 -- why a further host gets no place
 abbrev pub refusal : List ℕ → List Place → Option ShelfFault
-refusal host places = if has_place host places then Some Taken else (if length places == 16 then Some Full else None)
+refusal host places = if has_place host places then Some Taken else (if length places == most_servers then Some Full else None)
 
 -- a fault is told exactly where there is one, and want of memory only where there is none
 abbrev pub IsTold : ShelfFault → Option ShelfFault → Type 0

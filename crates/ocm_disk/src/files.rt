@@ -16,11 +16,20 @@ const MODE: u32 = 0o600;
 
 /// A disk over a real file. It tells nothing of what it holds, and counts its faults. A call that a signal interrupted
 /// is tried again. Room is free.
-#[derive(Drop)]
 pub struct FileDisk {
     file: File,
     len: u64,
     faults: u64,
+}
+
+impl Drop for FileDisk {
+    fn drop(self) {
+        let FileDisk {
+            file: _,
+            len: _,
+            faults: _,
+        } = self;
+    }
 }
 
 impl FileDisk {

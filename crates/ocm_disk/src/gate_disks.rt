@@ -15,7 +15,6 @@ use std::sync::Arc;
 
 /// A disk in memory that sets a gate once so many syncs passed, each with a write since the one before it. As a disk it
 /// is the one that it was made of; of its gate contracts know nothing.
-#[derive(Drop)]
 pub struct GateDisk {
     disk: MemDisk,
     /// How many such syncs are still to pass before the gate is set.
@@ -23,6 +22,17 @@ pub struct GateDisk {
     /// Whether a write passed since the last sync that did.
     written: bool,
     set: Arc<Gate, Global>,
+}
+
+impl Drop for GateDisk {
+    fn drop(self) {
+        let GateDisk {
+            disk: _,
+            left: _,
+            written: _,
+            set: _,
+        } = self;
+    }
 }
 
 impl Model for GateDisk {

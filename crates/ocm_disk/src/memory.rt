@@ -20,12 +20,22 @@ use std::marker::Model;
 ///
 /// It holds its bytes about twice, and of an earlier moment none: the past is seen by contracts alone. A write, a
 /// cut, a sync and a crash take no memory, and a write that ends beyond the room taken is a fault.
-#[derive(Drop)]
 pub struct MemDisk {
     images: Images,
     past: Trace<Images>,
     fuse: Option<u64>,
     faults: u64,
+}
+
+impl Drop for MemDisk {
+    fn drop(self) {
+        let MemDisk {
+            images: _,
+            past: _,
+            fuse: _,
+            faults: _,
+        } = self;
+    }
 }
 
 impl Model for MemDisk {

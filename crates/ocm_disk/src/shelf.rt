@@ -5,12 +5,10 @@ ghost use Rattle.ocm_disk.specs.Memory.{settled};
 ghost use Rattle.ocm_disk.specs.Shelf.{is_of, disk_of, is_vacant, with_disk, refusal, bytes_of, IsTold};
 
 use crate::memory::MemDisk;
+use ocm_limits::MOST_SERVERS;
 use ocm_types::Host;
 use std::alloc::Global;
 use std::marker::Model;
-
-/// How many places a shelf has at most.
-const MAX_PLACES: usize = 16;
 
 /// Why a host gets no place.
 #[derive(Clone, Copy, Debug, PartialEq, Eq)]
@@ -24,10 +22,15 @@ pub enum ShelfFault {
 }
 
 /// The place of a host: its disk, or nothing where the disk was taken out.
-#[derive(Drop)]
 pub struct Place {
     host: Host,
     disk: Option<MemDisk>,
+}
+
+impl Drop for Place {
+    fn drop(self) {
+        let Place { host: _, disk: _ } = self;
+    }
 }
 
 impl Place {
@@ -55,20 +58,26 @@ impl Place {
 }
 
 /// A shelf of disks in memory, with a place for each of at most 16 hosts.
-#[derive(Drop)]
 pub struct Shelf {
     places: Vec<Place>,
+}
+
+impl Drop for Shelf {
+    fn drop(self) {
+        let Shelf { places: _ } = self;
+    }
 }
 
 impl Model for Shelf {
     ghost use Rattle.std.specs.Prelude.{◌≤◌, List, length};
     ghost use Rattle.ocm_disk.specs.declared.shelf.Place.{Place};
+    ghost use Rattle.ocm_limits.specs.Limits.{most_servers};
 
     ghost Value = { List Place };
 
     ghost view = { λ s. s.places.items };
 
-    ghost invariant = { λ s. length s.places.items ≤ 16 };
+    ghost invariant = { λ s. length s.places.items ≤ most_servers };
 }
 
 impl Shelf {
@@ -136,7 +145,7 @@ impl Shelf {
     {
         if self.index_of(host).is_some() {
             Some(ShelfFault::Taken)
-        } else if self.places.len() == MAX_PLACES {
+        } else if self.places.len() == MOST_SERVERS {
             Some(ShelfFault::Full)
         } else {
             None

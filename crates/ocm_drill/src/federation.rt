@@ -14,7 +14,6 @@ use std::alloc::Global;
 pub const SERVERS: u32 = 4;
 
 /// What the events of a drill name, to be copied from here.
-#[derive(Drop)]
 pub struct Federation {
     /// The user of each server, whose host is the server's.
     users: List<Address>,
@@ -31,6 +30,18 @@ pub struct Federation {
     ghost collection_is: { collection ≡ federation.collection },
     ghost file_is: { file ≡ federation.file },
     ghost shared_file_is: { shared_file ≡ federation.shared_file },
+}
+
+impl Drop for Federation {
+    fn drop(self) {
+        let Federation {
+            users: _,
+            keys: _,
+            collection: _,
+            file: _,
+            shared_file: _,
+        } = self;
+    }
 }
 
 impl Federation {

@@ -55,7 +55,7 @@ pub fn drill_hosts(alloc: Global) -> Result<List<Host>, NoMemory>
     let mut hosts = List::new(alloc);
     for i in 0..4 {
         let user = user(alloc, i)?;
-        hosts.push(user.host)?;
+        hosts.push(user.into_host())?;
     }
     Ok(hosts)
 }

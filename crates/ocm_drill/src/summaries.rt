@@ -11,9 +11,15 @@ use std::marker::Model;
 /// The summary of a run, line by line: `events` and how many events there were; then for each status that came, ascending,
 /// `status`, the status and how often it came; then for each server `kept`, its host and how many entries it keeps.
 /// Contracts see its bytes.
-#[derive(Debug, Drop)]
+#[derive(Debug)]
 pub struct Summary {
     text: Bytes,
+}
+
+impl Drop for Summary {
+    fn drop(self) {
+        let Summary { text: _ } = self;
+    }
 }
 
 impl Model for Summary {
@@ -52,6 +58,7 @@ impl Summary {
     pub fn into_bytes(self) -> Bytes
         ensures { result ≡ self }
     {
-        self.text
+        let Summary { text } = self;
+        text
     }
 }

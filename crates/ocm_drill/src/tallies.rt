@@ -9,9 +9,15 @@ use std::marker::Model;
 
 /// How often each status came first in what an event printed. Contracts see the counts, each at the place of its
 /// status.
-#[derive(Debug, Drop)]
+#[derive(Debug)]
 pub struct Tally {
     counts: Vec<u32>,
+}
+
+impl Drop for Tally {
+    fn drop(self) {
+        let Tally { counts: _ } = self;
+    }
 }
 
 impl Model for Tally {

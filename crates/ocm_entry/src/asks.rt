@@ -5,7 +5,7 @@ use ocm_path::Path;
 use ocm_types::{Address, Fresh, Name, Notice, Offer, Perms, ProviderId, Secret};
 
 /// One step that a server is asked to take.
-#[derive(Debug, Drop, PartialEq, Eq)]
+#[derive(Debug, PartialEq, Eq)]
 pub enum Ask {
     /// A new user. The key of the account is made of the drawn bytes.
     AddUser {
@@ -57,8 +57,42 @@ pub enum Ask {
     },
 }
 
+impl Drop for Ask {
+    fn drop(self) {
+        match self {
+            Ask::AddUser { name: _, fresh: _ } => {}
+            Ask::Local { key: _, cmd: _ } => {}
+            Ask::Offer { offer: _ } => {}
+            Ask::Notice {
+                notice: _,
+                fresh: _,
+            } => {}
+            Ask::Dav {
+                secret: _,
+                method: _,
+                path: _,
+                body: _,
+            } => {}
+            Ask::Due => {}
+            Ask::Settle {
+                number: _,
+                status: _,
+                id: _,
+            } => {}
+            Ask::Tick { clock: _ } => {}
+            Ask::Carry {
+                secret: _,
+                from: _,
+                to: _,
+                moving: _,
+                overwrite: _,
+            } => {}
+        }
+    }
+}
+
 /// What a user commands.
-#[derive(Debug, Drop, PartialEq, Eq)]
+#[derive(Debug, PartialEq, Eq)]
 pub enum Cmd {
     /// A share of what stands at the path, for a user of another server. Its secret is made of the
     /// drawn bytes.
@@ -102,6 +136,31 @@ pub enum Cmd {
         id: u32,
         until: u64,
     },
+}
+
+impl Drop for Cmd {
+    fn drop(self) {
+        match self {
+            Cmd::Share {
+                path: _,
+                with: _,
+                perms: _,
+                fresh: _,
+            } => {}
+            Cmd::Unshare { id: _ } => {}
+            Cmd::Limit { id: _, perms: _ } => {}
+            Cmd::Accept { number: _ } => {}
+            Cmd::Decline { number: _ } => {}
+            Cmd::Reshare {
+                number: _,
+                with: _,
+                perms: _,
+            } => {}
+            Cmd::Undo { request: _ } => {}
+            Cmd::List => {}
+            Cmd::Expire { id: _, until: _ } => {}
+        }
+    }
 }
 
 /// What is done with files.

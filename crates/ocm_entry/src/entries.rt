@@ -5,10 +5,16 @@ use crate::replies::Reply;
 use ocm_base::{NoMemory, and};
 
 /// An ask with the reply that was given: one entry of a server's history.
-#[derive(Debug, Drop, PartialEq, Eq)]
+#[derive(Debug, PartialEq, Eq)]
 pub struct Entry {
     pub ask: Ask,
     pub reply: Reply,
+}
+
+impl Drop for Entry {
+    fn drop(self) {
+        let Entry { ask: _, reply: _ } = self;
+    }
 }
 
 impl Entry {

@@ -5,7 +5,7 @@ use ocm_path::Path;
 use ocm_types::{Address, Offer, Perms, Phase, RequestPhase};
 
 /// What stands at a path, as PROPFIND tells it (RFC 4918 section 9.1).
-#[derive(Debug, Drop, PartialEq, Eq)]
+#[derive(Debug, PartialEq, Eq)]
 pub struct DavItem {
     /// Below the holder's root.
     pub path: Path,
@@ -13,8 +13,14 @@ pub struct DavItem {
     pub size: Option<u64>,
 }
 
+impl Drop for DavItem {
+    fn drop(self) {
+        let DavItem { path: _, size: _ } = self;
+    }
+}
+
 /// A line of what a user lists.
-#[derive(Debug, Drop, PartialEq, Eq)]
+#[derive(Debug, PartialEq, Eq)]
 pub enum Line {
     /// A share of this user's files.
     Share {
@@ -38,6 +44,32 @@ pub enum Line {
         perms: Option<Perms>,
         state: RequestPhase,
     },
+}
+
+impl Drop for Line {
+    fn drop(self) {
+        match self {
+            Line::Share {
+                id: _,
+                path: _,
+                with: _,
+                perms: _,
+                live: _,
+            } => {}
+            Line::Received {
+                number: _,
+                offer: _,
+                phase: _,
+            } => {}
+            Line::Request {
+                number: _,
+                received: _,
+                with: _,
+                perms: _,
+                state: _,
+            } => {}
+        }
+    }
 }
 
 impl DavItem {

@@ -6,7 +6,7 @@ use ocm_base::{Bytes, List, NoMemory};
 use ocm_types::{Name, Numbered, Secret};
 
 /// What a server answers.
-#[derive(Debug, Drop, PartialEq, Eq)]
+#[derive(Debug, PartialEq, Eq)]
 pub enum Reply {
     /// The key of a new account.
     Key { key: Secret },
@@ -47,6 +47,32 @@ pub enum Reply {
     DiskFault { count: u64 },
     /// The disk failed before, with this count, and nothing changes until the next opening.
     Stopped { count: u64 },
+}
+
+impl Drop for Reply {
+    fn drop(self) {
+        match self {
+            Reply::Key { key: _ } => {}
+            Reply::Number { number: _ } => {}
+            Reply::Done => {}
+            Reply::Left => {}
+            Reply::Listing { lines: _ } => {}
+            Reply::Recipient { user: _ } => {}
+            Reply::Noticed => {}
+            Reply::Child { id: _ } => {}
+            Reply::File { body: _ } => {}
+            Reply::Items { items: _ } => {}
+            Reply::Created => {}
+            Reply::Replaced => {}
+            Reply::Removed => {}
+            Reply::Due { messages: _ } => {}
+            Reply::Refused { why: _ } => {}
+            Reply::JournalFull => {}
+            Reply::NoMemory => {}
+            Reply::DiskFault { count: _ } => {}
+            Reply::Stopped { count: _ } => {}
+        }
+    }
 }
 
 impl Reply {

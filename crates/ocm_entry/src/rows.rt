@@ -13,7 +13,7 @@ pub struct User {
 
 /// A share: what a guest may do with the files of a user at and below a path. Shares are numbered
 /// from 1, and a further share has a smaller number as its parent.
-#[derive(Debug, Drop, PartialEq, Eq)]
+#[derive(Debug, PartialEq, Eq)]
 pub struct Share {
     /// The number of the user whose files they are.
     pub owner: u32,
@@ -35,8 +35,24 @@ pub struct Share {
     pub asked: Option<Perms>,
 }
 
+impl Drop for Share {
+    fn drop(self) {
+        let Share {
+            owner: _,
+            root: _,
+            parent: _,
+            with: _,
+            sender: _,
+            secret: _,
+            granted: _,
+            sender_id: _,
+            asked: _,
+        } = self;
+    }
+}
+
 /// A user's request to share a received share further. Requests are numbered from 1.
-#[derive(Debug, Drop, PartialEq, Eq)]
+#[derive(Debug, PartialEq, Eq)]
 pub struct Request {
     /// The number of the received share.
     pub received: u32,
@@ -45,11 +61,28 @@ pub struct Request {
     pub state: RequestPhase,
 }
 
+impl Drop for Request {
+    fn drop(self) {
+        let Request {
+            received: _,
+            with: _,
+            perms: _,
+            state: _,
+        } = self;
+    }
+}
+
 /// A path of a user: the number of the user, and the path below the user's root.
-#[derive(Debug, Drop, PartialEq, Eq, Hash)]
+#[derive(Debug, PartialEq, Eq, Hash)]
 pub struct Place {
     pub user: u32,
     pub path: Path,
+}
+
+impl Drop for Place {
+    fn drop(self) {
+        let Place { user: _, path: _ } = self;
+    }
 }
 
 /// What stands at a place.
@@ -69,10 +102,16 @@ pub struct Node {
 }
 
 /// What the holder of a secret may do, at and below a place.
-#[derive(Debug, Drop, PartialEq, Eq)]
+#[derive(Debug, PartialEq, Eq)]
 pub struct Grant {
     pub root: Place,
     pub rights: Rights,
+}
+
+impl Drop for Grant {
+    fn drop(self) {
+        let Grant { root: _, rights: _ } = self;
+    }
 }
 
 impl User {

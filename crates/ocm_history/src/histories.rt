@@ -29,10 +29,18 @@ use ocm_types::Host;
 use std::alloc::Global;
 
 /// The memory of a server.
-#[derive(Drop)]
 pub struct History {
     pub core: Core,
     pub records: KeptRecords,
+}
+
+impl Drop for History {
+    fn drop(self) {
+        let History {
+            core: _,
+            records: _,
+        } = self;
+    }
 }
 
 impl History {

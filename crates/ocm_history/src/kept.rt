@@ -15,7 +15,7 @@ use std::alloc::Global;
 use std::marker::Model;
 
 /// What is kept in memory of an entry.
-#[derive(Debug, Drop)]
+#[derive(Debug)]
 pub enum KeptRecord {
     /// Of a tick: its clock, in whole seconds since the epoch.
     Tick(u64),
@@ -23,6 +23,16 @@ pub enum KeptRecord {
     Put(Bytes),
     /// Of any other ask: its record in form 2.
     Other(Bytes),
+}
+
+impl Drop for KeptRecord {
+    fn drop(self) {
+        match self {
+            KeptRecord::Tick(_) => {}
+            KeptRecord::Put(_) => {}
+            KeptRecord::Other(_) => {}
+        }
+    }
 }
 
 impl KeptRecord {
@@ -191,11 +201,21 @@ fn record_of_size(text: &Bytes) -> Result<Bytes, RecordFault>
 }
 
 /// What is kept of all entries, the oldest first.
-#[derive(Debug, Drop)]
+#[derive(Debug)]
 pub struct KeptRecords {
     items: Vec<KeptRecord>,
     asks: u64,
     size: u64,
+}
+
+impl Drop for KeptRecords {
+    fn drop(self) {
+        let KeptRecords {
+            items: _,
+            asks: _,
+            size: _,
+        } = self;
+    }
 }
 
 impl Model for KeptRecords {

@@ -12,7 +12,6 @@ use std::alloc::Global;
 use std::marker::Model;
 
 /// Reads the messages of a stream, one after another, from a source that may cut it anywhere.
-#[derive(Drop)]
 pub struct Reader {
     window: Window,
     kind: Kind,
@@ -20,6 +19,19 @@ pub struct Reader {
     place: u64,
     failed: bool,
     gone: u64,
+}
+
+impl Drop for Reader {
+    fn drop(self) {
+        let Reader {
+            window: _,
+            kind: _,
+            max: _,
+            place: _,
+            failed: _,
+            gone: _,
+        } = self;
+    }
 }
 
 impl Model for Reader {

@@ -9,13 +9,22 @@ use std::marker::Model;
 
 /// Members in order, numbered from 1, each of which belongs to a group that has a number. The members
 /// of a group are found without a look at the others: each knows the one before it in its group.
-#[derive(Drop)]
 pub struct Chain {
     groups: Vec<u32>,
     /// The number of the member before in the same group, or 0.
     earlier: Vec<u32>,
     /// The number of the last member of a group.
     last: HashMap<u32, u32>,
+}
+
+impl Drop for Chain {
+    fn drop(self) {
+        let Chain {
+            groups: _,
+            earlier: _,
+            last: _,
+        } = self;
+    }
 }
 
 impl Model for Chain {

@@ -25,7 +25,6 @@ use std::marker::Model;
 ///
 /// Contracts see the lists of both, and how many more of each can be added without memory. There are
 /// at most 65,536 of each.
-#[derive(Drop)]
 pub struct Inbox {
     records: RecordTable,
     requests: Vec<Request>,
@@ -40,6 +39,21 @@ pub struct Inbox {
     /// Which records with a mark are neither declined nor removed.
     held: Tally,
     alloc: Global,
+}
+
+impl Drop for Inbox {
+    fn drop(self) {
+        let Inbox {
+            records: _,
+            requests: _,
+            by_user: _,
+            by_mark: _,
+            by_asker: _,
+            pending: _,
+            held: _,
+            alloc: _,
+        } = self;
+    }
 }
 
 impl Model for Inbox {

@@ -7,7 +7,7 @@ use ocm_types::{Address, Name, Offer, ProviderId, Secret, ShareName};
 use std::marker::Model;
 
 /// All that an offer says, to find it by.
-#[derive(Debug, Drop, PartialEq, Eq, Hash)]
+#[derive(Debug, PartialEq, Eq, Hash)]
 pub struct OfferKey {
     pub with: Address,
     pub name: ShareName,
@@ -21,6 +21,22 @@ pub struct OfferKey {
     pub write: bool,
     /// The permission to share with others.
     pub share: bool,
+}
+
+impl Drop for OfferKey {
+    fn drop(self) {
+        let OfferKey {
+            with: _,
+            name: _,
+            id: _,
+            owner: _,
+            sender: _,
+            secret: _,
+            read: _,
+            write: _,
+            share: _,
+        } = self;
+    }
 }
 
 impl OfferKey {
@@ -50,12 +66,23 @@ impl OfferKey {
 }
 
 /// An offer that can be received without memory, with what it is found by. Contracts see the offer.
-#[derive(Debug, Drop)]
+#[derive(Debug)]
 pub struct PlannedOffer {
     offer: Offer,
     key: OfferKey,
     user: Name,
     mark: Mark,
+}
+
+impl Drop for PlannedOffer {
+    fn drop(self) {
+        let PlannedOffer {
+            offer: _,
+            key: _,
+            user: _,
+            mark: _,
+        } = self;
+    }
 }
 
 impl Model for PlannedOffer {
@@ -107,7 +134,13 @@ impl PlannedOffer {
         ensures user { result.2 ≡ self.with.user }
         ensures mark { result.3 ≡ mark_of self }
     {
-        (self.offer, self.key, self.user, self.mark)
+        let PlannedOffer {
+            offer,
+            key,
+            user,
+            mark,
+        } = self;
+        (offer, key, user, mark)
     }
 }
 

@@ -19,7 +19,6 @@ use std::marker::Model;
 
 /// The received offers in order, numbered from 1, found by what they say, by the user that they are
 /// for, and by their marks.
-#[derive(Drop)]
 pub struct RecordTable {
     rows: Vec<Record>,
     /// The number of the first that says this.
@@ -28,6 +27,17 @@ pub struct RecordTable {
     by_user: HashMap<Name, u32>,
     /// The number of the first with this mark.
     by_mark: HashMap<Mark, u32>,
+}
+
+impl Drop for RecordTable {
+    fn drop(self) {
+        let RecordTable {
+            rows: _,
+            by_offer: _,
+            by_user: _,
+            by_mark: _,
+        } = self;
+    }
 }
 
 impl Model for RecordTable {

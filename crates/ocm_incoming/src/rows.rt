@@ -5,10 +5,16 @@ use ocm_base::NoMemory;
 use ocm_types::{Offer, Phase, ProviderId, Secret};
 
 /// A received offer, with how far it has come. Records are numbered from 1.
-#[derive(Debug, Drop, PartialEq, Eq)]
+#[derive(Debug, PartialEq, Eq)]
 pub struct Record {
     pub offer: Offer,
     pub phase: Phase,
+}
+
+impl Drop for Record {
+    fn drop(self) {
+        let Record { offer: _, phase: _ } = self;
+    }
 }
 
 /// What a notification names received offers by: those with this id and this secret.

@@ -30,7 +30,7 @@ impl<D: Disk> Journal<D> {
     pub fn into_disk(self) -> D
         ensures { result ≡ disk_of self }
     {
-        self.disk
+        self.into_inner()
     }
 }
 

@@ -13,9 +13,14 @@ use std::alloc::Global;
 
 /// The fields of a JSON object (RFC 8259 section 4). Those that nobody asks for are passed over, and one that is `null`
 /// is as one that is absent.
-#[derive(Drop)]
 pub struct Fields {
     value: Value,
+}
+
+impl Drop for Fields {
+    fn drop(self) {
+        let Fields { value: _ } = self;
+    }
 }
 
 impl Fields {

@@ -25,7 +25,6 @@ use std::alloc::Global;
 
 /// How far a replay has come. Ticks are put off until the next ask that is none, so that the lines before it can be
 /// looked up at the moments that they have.
-#[derive(Drop)]
 struct Replay {
     /// The lists after the last ask that was no tick and the ticks of the lines that were looked up since.
     core: Core,
@@ -37,6 +36,18 @@ struct Replay {
     found: usize,
     /// Whether the line behind these is false. No further one is looked up then.
     stopped: bool,
+}
+
+impl Drop for Replay {
+    fn drop(self) {
+        let Replay {
+            core: _,
+            moment: _,
+            place: _,
+            found: _,
+            stopped: _,
+        } = self;
+    }
 }
 
 impl Replay {

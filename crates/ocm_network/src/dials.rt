@@ -12,11 +12,21 @@ use std::sync::{Arc, Wait};
 use std::time;
 
 /// Exchanges over TCP, each on a connection of its own, with limits of time. It tells nothing of them.
-#[derive(Drop)]
 pub struct TcpDial<'a, R: Wait + time::Clock + Net<Listener = TcpListener, Stream = TcpStream>> {
     rt: &'a R,
     pauses: Arc<Pauses, Global>,
     faults: u64,
+}
+
+impl<R: Wait + time::Clock + Net<Listener = TcpListener, Stream = TcpStream>> Drop
+    for TcpDial<'_, R> {
+    fn drop(self) {
+        let TcpDial {
+            rt: _,
+            pauses: _,
+            faults: _,
+        } = self;
+    }
 }
 
 impl<'a, R: Wait + time::Clock + Net<Listener = TcpListener, Stream = TcpStream>> TcpDial<'a, R> {

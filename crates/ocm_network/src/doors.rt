@@ -14,10 +14,18 @@ const PIECE: usize = 65_536;
 
 /// One worker's door to the entrance that all workers share: it gives a connection once a whole message of it is here.
 /// It tells nothing, and no fault of one connection is its own.
-#[derive(Drop)]
 pub struct TcpDoor<'a, R: Wait + time::Clock> {
     entrance: Arc<Entrance<'a, R>, Global>,
     piece: Vec<u8>,
+}
+
+impl<R: Wait + time::Clock> Drop for TcpDoor<'_, R> {
+    fn drop(self) {
+        let TcpDoor {
+            entrance: _,
+            piece: _,
+        } = self;
+    }
 }
 
 impl<'a, R: Wait + time::Clock> TcpDoor<'a, R> {

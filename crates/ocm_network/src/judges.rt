@@ -15,11 +15,20 @@ const LAST_PLACE: &[u8] = b"GET /ocm-provider/ ";
 const POST: &[u8] = b"POST ";
 
 /// A request to a host.
-#[derive(Drop)]
 pub struct Asked<'a> {
     pub alloc: Global,
     pub host: &'a Host,
     pub request: &'a Bytes,
+}
+
+impl Drop for Asked<'_> {
+    fn drop(self) {
+        let Asked {
+            alloc: _,
+            host: _,
+            request: _,
+        } = self;
+    }
 }
 
 impl<'a> Judge for Asked<'a> {

@@ -2,7 +2,7 @@ use ocm_base::Text;
 use ocm_types::{Host, Secret};
 
 /// What a running server is to be.
-#[derive(Debug, Drop, PartialEq, Eq)]
+#[derive(Debug, PartialEq, Eq)]
 pub struct Plan {
     /// The host whose server it is.
     pub host: Host,
@@ -18,6 +18,20 @@ pub struct Plan {
     pub key_file: Text,
     /// How many connections each worker serves, 0 for no end.
     pub connections: u64,
+}
+
+impl Drop for Plan {
+    fn drop(self) {
+        let Plan {
+            host: _,
+            disk: _,
+            admin: _,
+            listen: _,
+            workers: _,
+            key_file: _,
+            connections: _,
+        } = self;
+    }
 }
 
 /// Why there is no plan.

@@ -18,13 +18,23 @@ use std::marker::Model;
 ///
 /// Contracts see the messages in the order in which they were sent, numbered from 1, and how many
 /// more can be added without memory. There are at most 1,048,576 messages.
-#[derive(Drop)]
 pub struct Outbox {
     rows: Vec<Sent>,
     // The thread of each thing about which a message waits, and of no other.
     threads: HashMap<Subject, Thread>,
     changes: u32,
     alloc: Global,
+}
+
+impl Drop for Outbox {
+    fn drop(self) {
+        let Outbox {
+            rows: _,
+            threads: _,
+            changes: _,
+            alloc: _,
+        } = self;
+    }
 }
 
 impl Model for Outbox {

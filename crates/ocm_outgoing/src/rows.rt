@@ -7,7 +7,7 @@ use ocm_rules::Subject;
 use ocm_types::{Letter, Notice, Numbered, ProviderId};
 
 /// A message that was sent, with whether it is settled.
-#[derive(Debug, Drop)]
+#[derive(Debug)]
 pub struct Sent {
     pub numbered: Numbered,
     pub subject: Subject,
@@ -15,6 +15,17 @@ pub struct Sent {
     /// The number of the next message about the same, 0 for none. It is read only from the first
     /// unsettled message about the same on.
     pub next: u32,
+}
+
+impl Drop for Sent {
+    fn drop(self) {
+        let Sent {
+            numbered: _,
+            subject: _,
+            settled: _,
+            next: _,
+        } = self;
+    }
 }
 
 /// The unsettled messages about one thing: the number of the first that is not settled, and of the last.

@@ -61,7 +61,7 @@ no_fault false false false false is = (refl, refl, refl, refl)
 not_longer : (n : ℕ) → ltb 255 n ≡ false → leb n 255 ≡ true
 not_longer n h = grind (arith, nat_tests)
 
-is_segment-from_tests : (s : List ℕ) → is_utf8 s ≡ true → text_fault s ≡ None → is_segment s ≡ true
+pub is_segment-from_tests : (s : List ℕ) → is_utf8 s ≡ true → text_fault s ≡ None → is_segment s ≡ true
 is_segment-from_tests s text none =
     let parts = no_fault _ _ _ _ none in
     and_from _ _ (and_from _ _ (and_from _ _ (and_from _ _ text (not_from_false _ parts.0)) (not_from_false _ parts.1)) (not_from_false _ parts.2)) (not_longer (length s) parts.3)

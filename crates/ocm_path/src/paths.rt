@@ -1,9 +1,10 @@
 ghost use Rattle.std.specs.Prelude.{◌≡◌, ◌≢◌, [], ◌++◌, ◌≤◌, length, drop, Some, None, Ok, Err, IfOk, IfErr, IsTrue, option_copied};
 ghost use Rattle.ocm_limits.specs.Limits.{most_path_bytes};
 ghost use Rattle.ocm_path.specs.Paths.{parent, is_root, last, is_above, path_text, path_escaped, is_path, path_below, path_of, path_given};
+ghost use Rattle.ocm_path.specs.PathTexts.{below_slash, path_with_text};
 
 use crate::faults::PathFault;
-use crate::reading::{read_segments, without_last_slash};
+use crate::reading::{own_segments, read_segments, without_last_slash};
 use crate::segments::{add_copies, behind, joined, joined_escaped, joined_len};
 use ocm_base::{List, NoMemory, Text};
 use std::alloc::Global;
@@ -14,9 +15,15 @@ use std::marker::Model;
 ///
 /// Each segment is a text of 1 to 255 bytes, neither `.` nor `..`, with no `/` and no control
 /// character of ASCII. The path's text has at most 2,048 bytes.
-#[derive(Debug, Drop, PartialEq, Eq, PartialOrd, Ord)]
+#[derive(Debug, PartialEq, Eq, PartialOrd, Ord)]
 pub struct Path {
     segments: List<Text>,
+}
+
+impl Drop for Path {
+    fn drop(self) {
+        let Path { segments: _ } = self;
+    }
 }
 
 impl Model for Path {
@@ -73,6 +80,33 @@ impl Path {
             return Err(PathFault::TooLong);
         }
         Ok(Path { segments })
+    }
+
+    /// The path whose own text this is, of at most 1,024 bytes, and `None` for every other text.
+    /// Nothing in it is escaped.
+    pub fn of_text(alloc: Global, text: &str) -> Result<Option<Path>, NoMemory>
+        ensures { IfOk result (λ path. path ≡ path_with_text text.now) }
+    {
+        match text.as_bytes() {
+            [b'/', below @ ..] => Path::of_below(alloc, below),
+            _ => Ok(None),
+        }
+    }
+
+    /// The path whose text is `/` and these bytes.
+    fn of_below(alloc: Global, below: &[u8]) -> Result<Option<Path>, NoMemory>
+        ensures { IfOk result (λ path. path ≡ below_slash below.now) }
+    {
+        if below.is_empty() {
+            return Ok(Some(Path::root(alloc)));
+        }
+        if below.len() > 1023 {
+            return Ok(None);
+        }
+        match own_segments(alloc, below)? {
+            Some(segments) => Ok(Some(Path { segments })),
+            None => Ok(None),
+        }
     }
 
     /// Whether this is the root.
@@ -144,7 +178,8 @@ impl Path {
     pub fn into_parent(self) -> Path
         ensures { result ≡ parent self }
     {
-        let mut segments = self.segments.into_vec();
+        let Path { segments } = self;
+        let mut segments = segments.into_vec();
         let _last = segments.pop();
         Path {
             segments: List::from_vec(segments),

@@ -14,11 +14,20 @@ use std::marker::Model;
 
 /// The reply to an ask, what it changes, and the messages that it sends. All memory that these need
 /// was taken when they were planned, but for the room in the tables.
-#[derive(Drop)]
 pub struct Planned {
     reply: Reply,
     change: Change,
     sent: List<Message>,
+}
+
+impl Drop for Planned {
+    fn drop(self) {
+        let Planned {
+            reply: _,
+            change: _,
+            sent: _,
+        } = self;
+    }
 }
 
 impl Model for Planned {
@@ -125,6 +134,11 @@ impl Planned {
         ensures change { result.1 ≡ self.change }
         ensures sent { result.2 ≡ self.sent }
     {
-        (self.reply, self.change, self.sent)
+        let Planned {
+            reply,
+            change,
+            sent,
+        } = self;
+        (reply, change, sent)
     }
 }

@@ -1,7 +1,7 @@
 //! What the holder of a secret may do, and at which places.
 ghost use Rattle.std.specs.Prelude.{◌≡◌, is_some, IfOk, IsTrue};
 ghost use Rattle.ocm_entry.specs.Proper.{is_short};
-ghost use Rattle.ocm_rules.specs.Files.{below, is_at_or_above, overlap, parent_of};
+ghost use Rattle.ocm_rules.specs.Files.{below, overlap, parent_of};
 ghost use Rattle.ocm_rules.specs.Holders.{permits, permits_carry};
 ghost use Rattle.ocm_rules.specs.State.{view_in};
 
@@ -9,6 +9,7 @@ use ocm_base::NoMemory;
 use ocm_entry::{Method, Place};
 use ocm_path::Path;
 use ocm_tables::Tables;
+use ocm_tree::is_at_or_above;
 use ocm_types::Rights;
 
 /// Whether rights suffice for a method, which reads or writes.
@@ -50,13 +51,6 @@ pub fn parent_of(place: &Place) -> Result<Place, NoMemory>
         user: place.user,
         path,
     })
-}
-
-/// Whether the first place is the second or lies above it.
-fn is_at_or_above(above: &Place, place: &Place) -> bool
-    ensures { result ≡ is_at_or_above above.now place.now }
-{
-    above.user == place.user && place.path.starts_with(&above.path)
 }
 
 /// Whether one of two places is the other or lies above it.

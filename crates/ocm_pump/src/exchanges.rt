@@ -2,11 +2,21 @@ use ocm_base::{Bytes, NoMemory};
 use ocm_types::Host;
 
 /// A request that was sent to a host, and the bytes that came back. None where the dial failed.
-#[derive(Debug, Drop, PartialEq, Eq)]
+#[derive(Debug, PartialEq, Eq)]
 pub struct Exchange {
     pub host: Host,
     pub request: Bytes,
     pub reply: Option<Bytes>,
+}
+
+impl Drop for Exchange {
+    fn drop(self) {
+        let Exchange {
+            host: _,
+            request: _,
+            reply: _,
+        } = self;
+    }
 }
 
 /// Why no bytes came back.

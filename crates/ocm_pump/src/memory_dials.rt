@@ -13,12 +13,22 @@ use std::alloc::Global;
 use std::marker::Model;
 
 /// A dial that answers out of memory. It tells its exchanges.
-#[derive(Drop)]
 pub struct MemDial {
     replies: List<Option<Bytes>>,
     place: usize,
     exchanges: List<Exchange>,
     faults: u64,
+}
+
+impl Drop for MemDial {
+    fn drop(self) {
+        let MemDial {
+            replies: _,
+            place: _,
+            exchanges: _,
+            faults: _,
+        } = self;
+    }
 }
 
 impl Model for MemDial {

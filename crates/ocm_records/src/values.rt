@@ -3,7 +3,7 @@ use ocm_entry::Cmd;
 use ocm_types::Name;
 
 /// What a server says of itself: the document of its discovery end point (Open Cloud Mesh API 1.1).
-#[derive(Debug, Drop, PartialEq, Eq)]
+#[derive(Debug, PartialEq, Eq)]
 pub struct Discovery {
     /// Whether the server takes part: `enabled`.
     pub enabled: bool,
@@ -16,8 +16,19 @@ pub struct Discovery {
     pub webdav: Option<Text>,
 }
 
+impl Drop for Discovery {
+    fn drop(self) {
+        let Discovery {
+            enabled: _,
+            version: _,
+            end_point: _,
+            webdav: _,
+        } = self;
+    }
+}
+
 /// Why a server refused a request (Open Cloud Mesh API 1.1).
-#[derive(Debug, Drop, PartialEq, Eq)]
+#[derive(Debug, PartialEq, Eq)]
 pub struct ErrorBody {
     /// The reason: `message`, a text of at most 1,024 bytes.
     pub message: Text,
@@ -25,13 +36,31 @@ pub struct ErrorBody {
     pub errors: List<FieldNote>,
 }
 
+impl Drop for ErrorBody {
+    fn drop(self) {
+        let ErrorBody {
+            message: _,
+            errors: _,
+        } = self;
+    }
+}
+
 /// What was wrong with a field of a request.
-#[derive(Debug, Drop, PartialEq, Eq)]
+#[derive(Debug, PartialEq, Eq)]
 pub struct FieldNote {
     /// The reason: `message`, a text of at most 1,024 bytes.
     pub message: Text,
     /// The field's name: `name`, a text of at most 1,024 bytes.
     pub name: Text,
+}
+
+impl Drop for FieldNote {
+    fn drop(self) {
+        let FieldNote {
+            message: _,
+            name: _,
+        } = self;
+    }
 }
 
 /// What a local user or the administrator asks.

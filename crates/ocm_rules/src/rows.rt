@@ -48,7 +48,7 @@ pub struct Told {
 }
 
 /// A share with what became of it.
-#[derive(Debug, Drop, PartialEq, Eq)]
+#[derive(Debug, PartialEq, Eq)]
 pub struct ShareRow {
     pub share: Share,
     /// Those of its last limit, else what was granted.
@@ -59,17 +59,47 @@ pub struct ShareRow {
     pub end: Option<u64>,
 }
 
+impl Drop for ShareRow {
+    fn drop(self) {
+        let ShareRow {
+            share: _,
+            perms: _,
+            closed: _,
+            end: _,
+        } = self;
+    }
+}
+
 /// A received offer with what became of it.
-#[derive(Debug, Drop, PartialEq, Eq)]
+#[derive(Debug, PartialEq, Eq)]
 pub struct ReceivedRow {
     pub offer: Offer,
     pub phase: Phase,
     pub told: Told,
 }
 
+impl Drop for ReceivedRow {
+    fn drop(self) {
+        let ReceivedRow {
+            offer: _,
+            phase: _,
+            told: _,
+        } = self;
+    }
+}
+
 /// A message with whether it is settled.
-#[derive(Debug, Drop, PartialEq, Eq)]
+#[derive(Debug, PartialEq, Eq)]
 pub struct SentRow {
     pub message: Message,
     pub settled: bool,
+}
+
+impl Drop for SentRow {
+    fn drop(self) {
+        let SentRow {
+            message: _,
+            settled: _,
+        } = self;
+    }
 }

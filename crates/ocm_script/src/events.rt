@@ -10,7 +10,7 @@ use ocm_types::{Address, Fresh, Host, Name, Notice, Offer, Perms, Secret};
 use std::alloc::Global;
 
 /// What a line of a script says. In each but the first, `host` names the server that it is about.
-#[derive(Debug, Drop, PartialEq, Eq)]
+#[derive(Debug, PartialEq, Eq)]
 pub enum Event {
     /// An empty line or a comment: nothing happens.
     Quiet,
@@ -107,13 +107,82 @@ pub enum Event {
     },
 }
 
+impl Drop for Event {
+    fn drop(self) {
+        match self {
+            Event::Quiet => {}
+            Event::Node { host: _ } => {}
+            Event::User {
+                host: _,
+                name: _,
+                fresh: _,
+            } => {}
+            Event::Local {
+                host: _,
+                key: _,
+                cmd: _,
+            } => {}
+            Event::Dav {
+                host: _,
+                secret: _,
+                method: _,
+                path: _,
+            } => {}
+            Event::Put {
+                host: _,
+                secret: _,
+                path: _,
+                body: _,
+            } => {}
+            Event::Carry {
+                host: _,
+                secret: _,
+                from: _,
+                to: _,
+                moving: _,
+                overwrite: _,
+            } => {}
+            Event::Clock { host: _, clock: _ } => {}
+            Event::Offer { host: _, offer: _ } => {}
+            Event::Notice {
+                host: _,
+                fresh: _,
+                notice: _,
+            } => {}
+            Event::Raw {
+                host: _,
+                fresh: _,
+                bytes: _,
+            } => {}
+            Event::Deliver {
+                host: _,
+                number: _,
+                fresh: _,
+                lost: _,
+            } => {}
+            Event::Pump { host: _, fresh: _ } => {}
+            Event::Fuse { host: _, calls: _ } => {}
+            Event::Crash { host: _, left: _ } => {}
+        }
+    }
+}
+
 /// What a file is to hold.
-#[derive(Debug, Drop, PartialEq, Eq)]
+#[derive(Debug, PartialEq, Eq)]
 pub enum Body {
     /// These bytes.
     Given(Bytes),
     /// The byte, `count` times.
     Fill { byte: u8, count: u32 },
+}
+
+impl Drop for Body {
+    fn drop(self) {
+        match self {
+            Body::Given(_) => {}
+            Body::Fill { byte: _, count: _ } => {}
+        }
+    }
 }
 
 impl Body {

@@ -22,9 +22,14 @@ const REST: u64 = 60_000;
 /// started without these. The system gives a file the lowest descriptor that is free, so that else the journal's file could
 /// become the standard error, and take what an administrator is told. Where the three are there, these files are others, and
 /// in nobody's way.
-#[derive(Drop)]
 pub struct StandIns {
     _files: [Option<File>; 3],
+}
+
+impl Drop for StandIns {
+    fn drop(self) {
+        let StandIns { _files: _ } = self;
+    }
 }
 
 impl StandIns {

@@ -7,10 +7,15 @@ use std::io::Eprint;
 
 /// A disk whose first fault is told at once, on standard error: from then on its server makes no change until it is started
 /// again.
-#[derive(Drop)]
 pub struct ToldDisk<'a, R: Eprint, D: Disk> {
     rt: &'a R,
     disk: D,
+}
+
+impl<R: Eprint, D: Disk> Drop for ToldDisk<'_, R, D> {
+    fn drop(self) {
+        let ToldDisk { rt: _, disk: _ } = self;
+    }
 }
 
 impl<'a, R: Eprint, D: Disk> ToldDisk<'a, R, D> {

@@ -1,25 +1,30 @@
 //! What is told of a run.
-use crate::pages::{add, written_told};
+use crate::pages::ended_told;
+use crate::texts::{add, cut};
 use crate::workers::Hand;
 use ocm_base::Bytes;
 use ocm_pump::Exchange;
-use ocm_server::{Back, Ended, MemConn, Served};
+use ocm_server::{Back, GateConn, Served};
 use std::alloc::Global;
 
-/// Adds how a server ended.
-pub fn add_served(alloc: Global, text: &mut String, served: Served) -> Option<()> {
-    add(text, served_told(alloc, served))
-}
-
-fn served_told(alloc: Global, served: Served) -> Option<String> {
+/// How a server ended.
+pub fn served_told(alloc: Global, served: Served) -> Option<String> {
     match served {
         Served::OtherHost { found } => host_told(alloc, found),
-        Served::Ended { calls, own } => format!(in alloc; "ended {calls} {own}").ok(),
-        Served::DoorFault { calls, own } => format!(in alloc; "door fault {calls} {own}").ok(),
-        Served::DiskFault { count } => format!(in alloc; "disk fault {count}").ok(),
-        Served::NotJournal { place } => format!(in alloc; "not a journal at {place}").ok(),
+        Served::Ended { calls, own } => calls_told(alloc, "ended", calls, own),
+        Served::DoorFault { calls, own } => calls_told(alloc, "door fault", calls, own),
+        Served::DiskFault { count } => number_told(alloc, "disk fault", count),
+        Served::NotJournal { place } => number_told(alloc, "not a journal at", place),
         Served::NoMemory => String::from_str(alloc, "no memory").ok(),
     }
+}
+
+fn calls_told(alloc: Global, kind: &str, calls: u64, own: u64) -> Option<String> {
+    format!(in alloc; "{kind} {calls} {own}").ok()
+}
+
+fn number_told(alloc: Global, kind: &str, number: u64) -> Option<String> {
+    format!(in alloc; "{kind} {number}").ok()
 }
 
 fn host_told(alloc: Global, found: Bytes) -> Option<String> {
@@ -39,42 +44,36 @@ pub fn add_worked(alloc: Global, text: &mut String, workers: &[Hand], pages: &st
 
 fn add_worker(alloc: Global, text: &mut String, worker: &Hand, pages: &str) -> Option<()> {
     let asked = worker.door.asked();
-    add(text, format!(in alloc; "; asked {asked}").ok())?;
-    add_backs(alloc, text, worker.door.back(), pages)?;
-    add_exchanges(alloc, text, worker.dial.exchanges())
+    let told = add(text, number_told(alloc, "; asked", asked));
+    let backs = told.and(add_backs(alloc, text, worker.door.back(), pages));
+    backs.and(add_exchanges(alloc, text, worker.dial.exchanges()))
 }
 
-fn add_backs(alloc: Global, text: &mut String, backs: &[Back<MemConn>], pages: &str) -> Option<()> {
+fn add_backs(
+    alloc: Global,
+    text: &mut String,
+    backs: &[Back<GateConn>],
+    pages: &str,
+) -> Option<()> {
     let [first, others @ ..] = backs else {
         return Some(());
     };
-    add_back(alloc, text, first.ended, first.conn.bytes(), pages)?;
+    add_back(alloc, text, first, pages)?;
     for back in others {
-        add_back(alloc, text, back.ended, back.conn.bytes(), "")?;
+        add_back(alloc, text, back, "")?;
     }
     Some(())
 }
 
 /// Adds how a connection ended, and what was written on it.
-pub fn add_back(
-    alloc: Global,
-    text: &mut String,
-    ended: Ended,
-    written: &[u8],
-    pages: &str,
-) -> Option<()> {
-    let ending = match ended {
-        Ended::Closed => " | closed ",
-        Ended::ReadFault => " | read fault ",
-        Ended::WriteFault => " | write fault ",
-        _ => " | other ending ",
-    };
-    text.push_str(ending).ok()?;
-    add(text, written_told(alloc, written, pages))
+fn add_back(alloc: Global, text: &mut String, back: &Back<GateConn>, pages: &str) -> Option<()> {
+    let parted = text.push_str(" | ").ok();
+    let told = ended_told(alloc, back.ended, back.conn.sink.bytes(), pages);
+    parted.and(add(text, told))
 }
 
 /// Adds each exchange: the host, the first line of the request, and whether the dial failed.
-pub fn add_exchanges(alloc: Global, text: &mut String, exchanges: &[Exchange]) -> Option<()> {
+fn add_exchanges(alloc: Global, text: &mut String, exchanges: &[Exchange]) -> Option<()> {
     for exchange in exchanges {
         add(text, exchange_told(alloc, exchange))?;
     }
@@ -83,10 +82,11 @@ pub fn add_exchanges(alloc: Global, text: &mut String, exchanges: &[Exchange]) -
 
 fn exchange_told(alloc: Global, exchange: &Exchange) -> Option<String> {
     let request = str::from_utf8(exchange.request.as_slice()).ok()?;
-    let (line, _) = request.split_once("\r\n")?;
+    let (line, _) = cut(request, "\r\n");
     let host = exchange.host.as_str();
-    match &exchange.reply {
-        Some(_) => format!(in alloc; " | {host} {line}").ok(),
-        None => format!(in alloc; " | {host} {line} fails").ok(),
-    }
+    let fails = match &exchange.reply {
+        Some(_) => "",
+        None => " fails",
+    };
+    format!(in alloc; " | {host} {line}{fails}").ok()
 }

@@ -1,9 +1,12 @@
-//! Disks of rows.
-ghost use Rattle.std.specs.Prelude.{◌≤◌, ◌^◌};
+//! Disks of rows, and the stores on them.
+ghost use Rattle.std.specs.Prelude.{List, [], IfSome};
+ghost use Rattle.ocm_entry.specs.declared.entries.Entry.{Entry};
+ghost use Rattle.ocm_store.specs.Stores.{IsLegalUnder, Stands, terms_of};
 
-use crate::pages::add;
+use crate::gates::Gates;
+use crate::texts::cut;
 use ocm_base::{Bytes, hex_read};
-use ocm_disk::{Disk, MemDisk};
+use ocm_disk::{Disk, GateDisk, MemDisk};
 use ocm_store::Store;
 use ocm_types::Host;
 use std::alloc::Global;
@@ -11,12 +14,32 @@ use std::alloc::Global;
 /// How many bytes a disk has at most.
 const MOST: u64 = 1_000_000;
 
-/// A disk of these bytes, all of them synced: `DIGITS*COUNT*DIGITS` with so many zeros between the two, or `-` for none.
-pub fn disk_of(alloc: Global, row: &str) -> Option<MemDisk> {
+/// How many bytes a journal takes at most.
+const JOURNAL: u64 = 1_048_576;
+
+/// A disk of a row, `BYTES FUSE` or `BYTES FUSE SYNCS`: of these bytes, with a fuse, and where so many syncs are named one that
+/// then sets the gate `a`.
+pub fn disk_of(alloc: Global, gates: &Gates, row: &str) -> Option<GateDisk> {
+    let (image, row) = cut(row, " ");
+    let (fuse, syncs) = cut(row, " ");
+    let syncs: u64 = syncs.parse().unwrap_or(u64::MAX);
     let mut disk = MemDisk::new(alloc);
-    fill(alloc, &mut disk, row).and(Some(disk))
+    let filled = fill(alloc, &mut disk, image);
+    let fused = filled.and(set_fuse(&mut disk, fuse));
+    match fused.and(Some(disk)).zip(gates.named("a")) {
+        Some((disk, set)) => Some(GateDisk::new(disk, syncs.max(1), set)),
+        None => None,
+    }
 }
 
+fn set_fuse(disk: &mut MemDisk, fuse: &str) -> Option<()> {
+    if fuse != "-" {
+        disk.fuse(fuse.parse().ok()?);
+    }
+    Some(())
+}
+
+/// Writes bytes, all of them synced: `DIGITS*COUNT*DIGITS` with so many zeros between the two, or `-` for none.
 fn fill(alloc: Global, disk: &mut MemDisk, row: &str) -> Option<()> {
     if row == "-" {
         return Some(());
@@ -28,8 +51,8 @@ fn fill(alloc: Global, disk: &mut MemDisk, row: &str) -> Option<()> {
 }
 
 fn image_of(alloc: Global, row: &str) -> Option<Bytes> {
-    let (head, rest) = row.split_once('*')?;
-    let (zeros, area) = rest.split_once('*')?;
+    let (head, rest) = cut(row, "*");
+    let (zeros, area) = cut(rest, "*");
     let digits = digits_of(alloc, head, zeros.parse().ok()?, area)?;
     let image = hex_read(alloc, digits.as_str());
     drop(digits);
@@ -53,34 +76,38 @@ fn write(disk: &mut MemDisk, bytes: &[u8]) -> Option<()> {
     disk.sync().ok()
 }
 
-/// Adds how many entries a disk has as the journal of `a.example`.
-pub fn add_kept<D: Disk>(alloc: Global, text: &mut String, disk: D) -> Option<()> {
-    let kept = kept_told(alloc, disk);
-    let parted = text.push_str("; ").ok();
-    parted.and(add(text, kept))
+/// The host of every case.
+pub fn host(alloc: Global) -> Option<Host> {
+    Host::read(alloc, "a.example").ok()
 }
 
-fn kept_told<D: Disk>(alloc: Global, disk: D) -> Option<String> {
-    match Host::read(alloc, "a.example") {
-        Ok(host) => loaded_told(alloc, disk, host),
-        Err(_) => {
+/// The store of the host that a disk has.
+pub fn loaded(alloc: Global, disk: GateDisk) -> Option<Store<GateDisk>>
+    ensures { IfSome result (λ store. (k : List Entry) × Stands ⟦<GateDisk as Disk>⟧ store k [] × IsLegalUnder (terms_of store) k []) }
+{
+    match host(alloc) {
+        Some(host) => match Store::load(alloc, disk, host, JOURNAL) {
+            Ok(store) => Some(store),
+            Err(failed) => {
+                drop(failed);
+                None
+            }
+        },
+        None => {
             drop(disk);
             None
         }
     }
 }
 
-fn loaded_told<D: Disk>(alloc: Global, disk: D, host: Host) -> Option<String> {
-    match Store::load(alloc, disk, host, 4096) {
-        Ok(store) => {
+/// How many entries a disk has as the journal of the host.
+pub fn kept_told(alloc: Global, disk: GateDisk) -> Option<String> {
+    match loaded(alloc, disk) {
+        Some(store) => {
             let kept = store.kept();
-            drop(store.into_disk());
+            drop(store);
             format!(in alloc; "{kept} entries").ok()
         }
-        Err((disk, fault)) => {
-            drop(disk);
-            drop(fault);
-            String::from_str(alloc, "not loaded").ok()
-        }
+        None => String::from_str(alloc, "not loaded").ok(),
     }
 }

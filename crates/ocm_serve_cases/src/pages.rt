@@ -1,37 +1,50 @@
 //! What was written on a connection.
 use ocm_case_rows::escaped;
+use ocm_server::Ended;
 use std::alloc::Global;
 
-/// Adds what is told.
-pub fn add(text: &mut String, told: Option<String>) -> Option<()> {
-    let told = told?;
-    let added = text.push_str(told.as_str());
-    drop(told);
-    added.ok()
+/// How many bytes are told whole at most.
+const MOST: usize = 2_000;
+
+/// An ending, and what was written; where pages are named, ` | ` between two, how many of them it is, and whether a part of
+/// one more.
+pub fn ended_told(alloc: Global, ended: Ended, written: &[u8], pages: &str) -> Option<String> {
+    let written = written_told(alloc, written, pages)?;
+    let told = format!(in alloc; "{ended:?} [{}]", written.as_str());
+    drop(written);
+    told.ok()
 }
 
-/// What is told, and the end of the line.
-pub fn line_of(told: Option<String>) -> Option<String> {
-    let mut line = told?;
-    let ended = line.push_str("\n").ok();
-    ended.and(Some(line))
-}
-
-/// What was written; where pages are named, ` | ` between two, how many of them it is, and whether a part of one more.
-pub fn written_told(alloc: Global, written: &[u8], pages: &str) -> Option<String> {
+fn written_told(alloc: Global, written: &[u8], pages: &str) -> Option<String> {
     let text = escaped(alloc, written)?;
-    if pages.is_empty() {
+    if pages.is_empty() && written.len() <= MOST {
         return Some(text);
     }
-    let told = counted_told(alloc, text.as_str(), pages);
+    let told = parted_told(alloc, written.len(), text.as_str(), pages);
     drop(text);
     told
 }
 
+fn parted_told(alloc: Global, bytes: usize, text: &str, pages: &str) -> Option<String> {
+    if pages.is_empty() {
+        last_told(alloc, bytes, text)
+    } else {
+        counted_told(alloc, text, pages)
+    }
+}
+
+/// How many bytes the pages have, and the last one.
+fn last_told(alloc: Global, bytes: usize, text: &str) -> Option<String> {
+    let (_, last) = text.rsplit_once("HTTP/1.1 ").unwrap_or(("", text));
+    format!(in alloc; "{bytes} bytes, at last HTTP/1.1 {last}").ok()
+}
+
 fn counted_told(alloc: Global, written: &str, pages: &str) -> Option<String> {
     match whole_pages(written, pages) {
-        Some((whole, true)) => format!(in alloc; "{whole} pages").ok(),
-        Some((whole, false)) => format!(in alloc; "{whole} pages and a part").ok(),
+        Some((whole, is_all)) => {
+            let part = if is_all { "" } else { " and a part" };
+            format!(in alloc; "{whole} pages{part}").ok()
+        }
         None => String::from_str(alloc, "other pages").ok(),
     }
 }

@@ -1,12 +1,14 @@
 //! Runs of a server from its disk to its disk.
 ghost use Rattle.std.specs.Prelude.{◌<◌, length};
 
-use crate::backs::{add_served, add_worked};
-use crate::conns::Failing;
-use crate::disks::{add_kept, disk_of};
+use crate::backs::{add_worked, served_told};
+use crate::conns::Manner;
+use crate::disks::{disk_of, kept_told};
+use crate::gates::Gates;
 use crate::plans::plan_of;
+use crate::texts::{add, cut};
 use crate::workers::{Hand, add_workers};
-use ocm_disk::MemDisk;
+use ocm_disk::GateDisk;
 use ocm_options::Plan;
 use ocm_serve::serve;
 use ocm_server::Served;
@@ -14,53 +16,47 @@ use std::alloc::Global;
 use std::sync::Wait;
 use std::thread::Threads;
 
-/// What a run comes to, `WORDS; DISK FUSE; WORKER; WORKER`.
-pub fn run_told<R: Threads + Wait + Sync>(rt: &R, alloc: Global, row: &str) -> Option<String> {
-    let (words, row) = row.split_once("; ")?;
+/// What a run comes to, `WORDS; DISK; WORKER; WORKER`.
+pub fn run_told<R: Threads + Wait + Sync>(
+    rt: &R,
+    alloc: Global,
+    gates: &Gates,
+    row: &str,
+) -> Option<String> {
+    let (words, row) = cut(row, "; ");
     let plan = plan_of(alloc, words)?;
-    let told = planned_told(rt, alloc, &plan, row, Failing::never(), "");
+    let told = planned_told(rt, alloc, &plan, gates, row, Manner::failing(0, 0), "");
     drop(plan);
     told
 }
 
-/// What a run by a plan comes to, `DISK FUSE; WORKER; WORKER`.
+/// What a run by a plan comes to, `DISK; WORKER; WORKER`. The first connection of each worker is of this manner.
 pub fn planned_told<R: Threads + Wait + Sync>(
     rt: &R,
     alloc: Global,
     plan: &Plan,
+    gates: &Gates,
     row: &str,
-    failing: Failing,
+    manner: Manner,
     pages: &str,
 ) -> Option<String> {
-    let (disk, rows) = row.split_once("; ")?;
+    let (disk, rows) = cut(row, "; ");
     let mut workers = Vec::new(alloc);
-    let added = add_workers(alloc, &mut workers, rows, failing);
-    let told = match added.and(fused(alloc, disk)) {
-        Some(disk) => served_told(rt, alloc, plan, &mut workers, disk, pages),
+    let added = add_workers(alloc, gates, &mut workers, rows, manner);
+    let told = match added.and(disk_of(alloc, gates, disk)) {
+        Some(disk) => workers_told(rt, alloc, plan, &mut workers, disk, pages),
         None => None,
     };
     drop(workers);
     told
 }
 
-/// A disk with a fuse, `DISK FUSE`.
-fn fused(alloc: Global, row: &str) -> Option<MemDisk> {
-    let (row, fuse) = row.split_once(' ')?;
-    if fuse == "-" {
-        return disk_of(alloc, row);
-    }
-    let calls = fuse.parse().ok()?;
-    let mut disk = disk_of(alloc, row)?;
-    disk.fuse(calls);
-    Some(disk)
-}
-
-fn served_told<R: Threads + Wait + Sync>(
+fn workers_told<R: Threads + Wait + Sync>(
     rt: &R,
     alloc: Global,
     plan: &Plan,
     workers: &mut Vec<Hand>,
-    disk: MemDisk,
+    disk: GateDisk,
     pages: &str,
 ) -> Option<String> {
     if workers.is_empty() {
@@ -75,12 +71,13 @@ fn ended_told(
     alloc: Global,
     served: Served,
     workers: &[Hand],
-    disk: MemDisk,
+    disk: GateDisk,
     pages: &str,
 ) -> Option<String> {
     let mut text = String::new(alloc);
-    let ended = add_served(alloc, &mut text, served);
-    let worked = add_worked(alloc, &mut text, workers, pages);
-    let kept = add_kept(alloc, &mut text, disk);
-    ended.and(worked).and(kept).and(Some(text))
+    let ended = add(&mut text, served_told(alloc, served));
+    let worked = ended.and(add_worked(alloc, &mut text, workers, pages));
+    let parted = worked.and(text.push_str("; ").ok());
+    let kept = parted.and(add(&mut text, kept_told(alloc, disk)));
+    kept.and(Some(text))
 }

@@ -1,8 +1,9 @@
 //! Runs in which each call fails in turn.
-use crate::conns::Failing;
-use crate::pages::add;
+use crate::conns::Manner;
+use crate::gates::Gates;
 use crate::plans::plan_of;
 use crate::runs::planned_told;
+use crate::texts::{add, cut};
 use ocm_options::Plan;
 use std::alloc::Global;
 use std::sync::Wait;
@@ -17,34 +18,25 @@ struct Series {
     told: String,
 }
 
-/// What these runs come to, `KIND COUNT; PAGES; WORDS; DISK FUSE; WORKER`: a line for those that follow one another and come
-/// to the same.
-pub fn series_told<R: Threads + Wait + Sync>(rt: &R, alloc: Global, row: &str) -> Option<String> {
-    let (kind, row) = row.split_once("; ")?;
-    let (pages, row) = row.split_once("; ")?;
-    let (words, row) = row.split_once("; ")?;
-    let plan = plan_of(alloc, words)?;
-    let told = planned_series(rt, alloc, &plan, kind, pages, row);
-    drop(plan);
-    told
-}
-
-fn planned_series<R: Threads + Wait + Sync>(
+/// What these runs come to, `KIND COUNT; PAGES; WORDS; DISK; WORKER`: a line for those that follow one another and come to the
+/// same.
+pub fn series_told<R: Threads + Wait + Sync>(
     rt: &R,
     alloc: Global,
-    plan: &Plan,
-    kind: &str,
-    pages: &str,
+    gates: &Gates,
     row: &str,
 ) -> Option<String> {
-    let (kind, count) = kind.split_once(' ')?;
-    let count: u64 = count.parse().ok()?;
+    let (calls, row) = cut(row, "; ");
+    let (pages, row) = cut(row, "; ");
+    let (words, row) = cut(row, "; ");
+    let plan = plan_of(alloc, words)?;
     let mut series = Series {
         text: String::new(alloc),
         first: 1,
         told: String::new(alloc),
     };
-    let whole = add_runs(rt, alloc, &mut series, plan, kind, count, pages, row);
+    let whole = add_runs(rt, alloc, &mut series, &plan, gates, calls, pages, row);
+    drop(plan);
     let Series { text, told, .. } = series;
     drop(told);
     whole.and(Some(text))
@@ -55,35 +47,47 @@ fn add_runs<R: Threads + Wait + Sync>(
     alloc: Global,
     series: &mut Series,
     plan: &Plan,
-    kind: &str,
-    count: u64,
+    gates: &Gates,
+    calls: &str,
     pages: &str,
     row: &str,
 ) -> Option<()> {
+    let (kind, count) = cut(calls, " ");
+    let count: u64 = count.parse().ok()?;
     for number in 0..count {
-        let failing = failing_at(kind, number.saturating_add(1))?;
-        let told = planned_told(rt, alloc, plan, row, failing, pages)?;
-        add_run(alloc, series, number, told)?;
+        add_run(rt, alloc, series, plan, gates, kind, number, pages, row)?;
     }
     close(alloc, series, count)
 }
 
-fn failing_at(kind: &str, number: u64) -> Option<Failing> {
-    match kind {
-        "source" => Some(Failing {
-            source: number,
-            sink: 0,
-        }),
-        "sink" => Some(Failing {
-            source: 0,
-            sink: number,
-        }),
-        _ => None,
+/// Adds the run behind so many others.
+fn add_run<R: Threads + Wait + Sync>(
+    rt: &R,
+    alloc: Global,
+    series: &mut Series,
+    plan: &Plan,
+    gates: &Gates,
+    kind: &str,
+    before: u64,
+    pages: &str,
+    row: &str,
+) -> Option<()> {
+    let manner = manner_at(kind, before.saturating_add(1));
+    match planned_told(rt, alloc, plan, gates, row, manner, pages) {
+        Some(told) => add_told(alloc, series, before, told),
+        None => None,
     }
 }
 
-/// Adds a run behind so many others.
-fn add_run(alloc: Global, series: &mut Series, before: u64, told: String) -> Option<()> {
+fn manner_at(kind: &str, number: u64) -> Manner {
+    match kind {
+        "sink" => Manner::failing(0, number),
+        _ => Manner::failing(number, 0),
+    }
+}
+
+/// Adds what is told of a run behind so many others.
+fn add_told(alloc: Global, series: &mut Series, before: u64, told: String) -> Option<()> {
     if told.as_str() == series.told.as_str() {
         drop(told);
         return Some(());

@@ -1,100 +1,110 @@
 //! Workers of rows.
-use crate::conns::{Failing, bytes_of, conn_of};
+use crate::conns::{Manner, OPEN, bytes_of, conn_of};
 use crate::doors::CaseDoor;
+use crate::gates::Gates;
+use crate::texts::cut;
 use ocm_base::{Bytes, List, MemClock};
-use ocm_disk::MemDisk;
+use ocm_disk::GateDisk;
 use ocm_pump::MemDial;
-use ocm_server::{Draw, MemConn, MemDoor, Worker};
+use ocm_server::{Draw, GateConn, MemDoor, Worker};
 use ocm_store::Store;
 use std::alloc::Global;
 
 /// A worker in memory.
-pub type Hand = Worker<Store<MemDisk>, CaseDoor<MemConn>, MemDial, MemClock>;
+pub type Hand = Worker<Store<GateDisk>, CaseDoor<GateConn>, MemDial, MemClock>;
 
-/// The connections of a door, and the replies to a dial.
-#[derive(Drop)]
-struct Making {
-    conns: List<MemConn>,
-    replies: List<Option<Bytes>>,
-}
-
-/// Adds the workers of a row, `; ` between two. The numbers of failing calls are those of each worker's first connection.
+/// Adds the workers of a row, `; ` between two. The first connection of each is of this manner.
 pub fn add_workers(
     alloc: Global,
+    gates: &Gates,
     workers: &mut Vec<Hand>,
     rows: &str,
-    failing: Failing,
+    manner: Manner,
 ) -> Option<()> {
     for row in rows.split("; ") {
-        add_worker(alloc, workers, row, failing)?;
+        add_worker(alloc, gates, workers, row, manner)?;
     }
     Some(())
 }
 
-fn add_worker(alloc: Global, workers: &mut Vec<Hand>, row: &str, failing: Failing) -> Option<()> {
-    let (fails, parts) = row.split_once(" | ").unwrap_or((row, ""));
-    let Ok(fails) = fails.parse() else {
-        return None;
-    };
-    let mut making = Making {
-        conns: List::new(alloc),
-        replies: List::new(alloc),
-    };
-    match add_parts(alloc, &mut making, parts, failing) {
-        Some(()) => add_made(alloc, workers, making, fails),
-        None => {
-            drop(making);
-            None
-        }
-    }
-}
-
-fn add_made(alloc: Global, workers: &mut Vec<Hand>, making: Making, fails: u64) -> Option<()> {
-    let Making { conns, replies } = making;
-    match MemDoor::new(alloc, conns) {
-        Ok(door) => workers
+fn add_worker(
+    alloc: Global,
+    gates: &Gates,
+    workers: &mut Vec<Hand>,
+    row: &str,
+    manner: Manner,
+) -> Option<()> {
+    let (fails, parts) = cut(row, " | ");
+    let fails = fails.parse().ok()?;
+    let mut conns = List::new(alloc);
+    let mut replies = List::new(alloc);
+    let added = add_parts(alloc, gates, &mut conns, &mut replies, parts, manner);
+    let door = added.and(MemDoor::new(alloc, conns).ok());
+    match door.zip(Some(MemDial::new(alloc, replies))) {
+        Some((door, dial)) => workers
             .push(Worker::new(
                 CaseDoor::new(door, fails),
-                MemDial::new(alloc, replies),
+                dial,
                 Draw::new([0; 32], 0),
                 MemClock::new(List::new(alloc)),
             ))
             .ok(),
-        Err(_) => {
-            drop(replies);
-            None
-        }
+        None => None,
     }
 }
 
-fn add_parts(alloc: Global, making: &mut Making, parts: &str, failing: Failing) -> Option<()> {
+fn add_parts(
+    alloc: Global,
+    gates: &Gates,
+    conns: &mut List<GateConn>,
+    replies: &mut List<Option<Bytes>>,
+    parts: &str,
+    manner: Manner,
+) -> Option<()> {
     for part in parts.split(" | ") {
-        if !part.is_empty() {
-            add_part(alloc, making, part, failing)?;
-        }
+        add_part(alloc, gates, conns, replies, part, manner)?;
     }
     Some(())
 }
 
-fn add_part(alloc: Global, making: &mut Making, part: &str, failing: Failing) -> Option<()> {
-    let (kind, row) = part.split_once(' ')?;
+/// Adds a connection, `conn BYTES` or `held FAILS BACK WAIT EVENT SET: BYTES`, or a reply.
+fn add_part(
+    alloc: Global,
+    gates: &Gates,
+    conns: &mut List<GateConn>,
+    replies: &mut List<Option<Bytes>>,
+    part: &str,
+    manner: Manner,
+) -> Option<()> {
+    let (kind, row) = cut(part, " ");
     match kind {
-        "conn" => add_conn(alloc, &mut making.conns, row, failing),
-        "reply" => add_reply(alloc, &mut making.replies, row),
+        "" => Some(()),
+        "reply" => add_reply(alloc, replies, row),
+        "held" => add_conn(conns, held_conn(alloc, gates, row)),
+        "conn" => {
+            let manner = if conns.is_empty() {
+                manner
+            } else {
+                Manner::failing(0, 0)
+            };
+            add_conn(conns, conn_of(alloc, gates, OPEN, row, manner))
+        }
         _ => None,
     }
 }
 
-fn add_conn(alloc: Global, conns: &mut List<MemConn>, row: &str, failing: Failing) -> Option<()> {
-    let failing = if conns.is_empty() {
-        failing
-    } else {
-        Failing::never()
-    };
-    match conn_of(alloc, row, failing) {
+fn add_conn(conns: &mut List<GateConn>, conn: Option<GateConn>) -> Option<()> {
+    match conn {
         Some(conn) => conns.push(conn).ok(),
         None => None,
     }
+}
+
+fn held_conn(alloc: Global, gates: &Gates, row: &str) -> Option<GateConn> {
+    let (words, bytes) = cut(row, ": ");
+    let (fails, held) = cut(words, " ");
+    let fails = fails.parse().ok()?;
+    conn_of(alloc, gates, held, bytes, Manner::failing(fails, 0))
 }
 
 fn add_reply(alloc: Global, replies: &mut List<Option<Bytes>>, row: &str) -> Option<()> {

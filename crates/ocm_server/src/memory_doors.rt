@@ -14,13 +14,24 @@ use std::snapshot::Snapshot;
 
 /// A door that gives connections out of memory, and keeps those that come back. It never fails, and takes no memory
 /// after it was made.
-#[derive(Drop)]
 pub struct MemDoor<C> {
     all: Snapshot<List<C>>,
     given: usize,
     rest: Vec<C>,
     back: Vec<Back<C>>,
     is_over: bool,
+}
+
+impl<C: Drop> Drop for MemDoor<C> {
+    fn drop(self) {
+        let MemDoor {
+            all: _,
+            given: _,
+            rest: _,
+            back: _,
+            is_over: _,
+        } = self;
+    }
 }
 
 impl<C> Model for MemDoor<C> {

@@ -87,7 +87,6 @@ fn serve_door<T: Object, L: Door, N: Dial, K: Clock, R: Wait>(
 }
 
 /// A worker: its door, its dial, its stream of drawn values, its pass, how it ended, and its clock.
-#[derive(Drop)]
 pub struct Worker<T: Object, L: Door, N: Dial, K: Clock> {
     pub door: L,
     pub dial: N,
@@ -95,6 +94,20 @@ pub struct Worker<T: Object, L: Door, N: Dial, K: Clock> {
     pub pass: Option<Pass<T>>,
     pub end: Rounds,
     pub clock: K,
+}
+
+impl<T: Object + Drop, L: Door + Drop, N: Dial + Drop, K: Clock + Drop> Drop
+    for Worker<T, L, N, K> {
+    fn drop(self) {
+        let Worker {
+            door: _,
+            dial: _,
+            draw: _,
+            pass: _,
+            end: _,
+            clock: _,
+        } = self;
+    }
 }
 
 impl<T: Object, L: Door, N: Dial, K: Clock> Worker<T, L, N, K> {

@@ -1,11 +1,11 @@
 -- What a request's head announces of its body (RFC 9112 section 6.3, RFC 9110 section 10.1.1).
-use Rattle.std.specs.Prelude.{◌≡◌, ℕ, Bool, true, false, not, ◌&&◌, ◌==◌, List, [], ◌∷◌, length, map, take, drop, codes, if◌then◌else◌, Option, Some, None, option_map}
+use Rattle.std.specs.Prelude.{◌≡◌, ℕ, Bool, true, false, not, ◌&&◌, ◌||◌, ◌==◌, List, [], ◌∷◌, length, map, take, drop, codes, if◌then◌else◌, Option, Some, None, option_map}
 use Rattle.std.specs.Char.{to_ascii_lowercase}
-use Rattle.std.specs.List.{list_any}
+use Rattle.std.specs.List.{list_all, list_any, slice_split}
 use Rattle.std.specs.Result.{result_ok}
 use Rattle.ocm_limits.specs.Limits.{most_body_bytes}
 use Rattle.ocm_heads.specs.Endings.{blanks, found, of_head}
-use Rattle.ocm_heads.specs.Heads.{SaysRequest, is_same}
+use Rattle.ocm_heads.specs.Heads.{SaysRequest, is_comma, is_same}
 use Rattle.ocm_heads.specs.Lengths.{request_length}
 use Rattle.ocm_heads.specs.declared.endings.Found.{Found}
 use Rattle.ocm_heads.specs.declared.endings.Found.TheVariants.{Whole, TooLong, Unfinished}
@@ -27,9 +27,24 @@ abbrev pub ends_with_one : ℕ → List ℕ → Bool
 ends_with_one last [] = false
 ends_with_one last (b ∷ text) = if b == 10 then last == 49 else ends_with_one (if b == 13 then last else b) text
 
--- whether a field asks to be told to send the body
+-- whether a byte is a blank of a field (RFC 9110 section 5.6.3)
+abbrev pub is_ows : ℕ → Bool
+is_ows b = b == 32 || b == 9
+
+-- a text from its first byte on that is no blank
+abbrev pub skip_ows : List ℕ → List ℕ
+skip_ows [] = []
+skip_ows (b ∷ text) = if is_ows b then skip_ows text else b ∷ text
+
+-- whether a member of a list says `100-continue`, in any case, with blanks around
+abbrev pub is_continue : List ℕ → Bool
+is_continue member =
+    let word = skip_ows member in
+    is_same (map to_ascii_lowercase (take 12 word)) (codes "100-continue") && list_all is_ows (drop 12 word)
+
+-- whether a field asks to be told to send the body: its list has that member (RFC 9110 sections 5.6.1 and 10.1.1)
 abbrev pub is_expecting : Field → Bool
-is_expecting f = is_same f.name (codes "expect") && is_same (map to_ascii_lowercase f.value) (codes "100-continue")
+is_expecting f = is_same f.name (codes "expect") && list_any is_continue (slice_split is_comma f.value)
 
 -- whether such a body is awaited by a head of this text, which is all that came or isn't
 abbrev pub is_awaited : List ℕ → List Field → Bool → Length → Bool

@@ -1,8 +1,8 @@
 //! What a request's head announces of its body.
 ghost use Rattle.std.specs.Prelude.{◌≡◌, ◌≤◌, IfOk, map};
 ghost use Rattle.std.specs.Char.{to_ascii_lowercase};
-ghost use Rattle.std.specs.List.{list_any};
-ghost use Rattle.ocm_heads.specs.Heads.{is_same};
+ghost use Rattle.std.specs.List.{list_all, list_any, slice_split};
+ghost use Rattle.ocm_heads.specs.Heads.{is_comma, is_same};
 ghost use Rattle.ocm_sockets.specs.Bodies as bodies;
 
 use ocm_base::NoMemory;
@@ -77,10 +77,51 @@ pub fn may_announce(head: &[u8]) -> bool {
     true
 }
 
+fn is_ows(byte: u8) -> bool
+    ensures { result ≡ bodies.is_ows byte }
+{
+    byte == b' ' || byte == b'\t'
+}
+
+fn are_ows(bytes: &[u8]) -> bool
+    ensures { result ≡ list_all bodies.is_ows bytes.now }
+{
+    bytes.iter().all(|byte| is_ows(*byte))
+}
+
+fn skip_ows(bytes: &[u8]) -> &[u8]
+    ensures { result.now ≡ bodies.skip_ows bytes.now }
+{
+    let mut rest = bytes;
+    while let [first, behind @ ..] = rest {
+        if !is_ows(*first) {
+            return rest;
+        }
+        rest = behind;
+    }
+    rest
+}
+
+/// Whether a member of a list says `100-continue`, in any case, with blanks around.
+fn is_continue(member: &[u8]) -> bool
+    ensures { result ≡ bodies.is_continue member.now }
+{
+    let word = skip_ows(member);
+    let end = word.len().min(12);
+    is_word(&word[..end], "100-continue") && are_ows(&word[end..])
+}
+
+/// Whether a list has the member `100-continue`.
+fn has_continue(list: &[u8]) -> bool
+    ensures { result ≡ list_any bodies.is_continue (slice_split is_comma list.now) }
+{
+    list.split(|byte| *byte == b',').any(is_continue)
+}
+
 fn is_expecting(field: &Field) -> bool
     ensures { result ≡ bodies.is_expecting field.now }
 {
-    field.name.as_str() == "expect" && is_word(field.value.as_slice(), "100-continue")
+    field.name.as_str() == "expect" && has_continue(field.value.as_slice())
 }
 
 fn any_expecting(fields: &[Field]) -> bool

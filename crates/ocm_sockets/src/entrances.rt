@@ -35,10 +35,18 @@ pub struct Limits {
 }
 
 /// What accepts, and how many it still accepts where that has an end.
-#[derive(Drop)]
 struct Gateway {
     listener: Option<TcpListener>,
     left: Option<u64>,
+}
+
+impl Drop for Gateway {
+    fn drop(self) {
+        let Gateway {
+            listener: _,
+            left: _,
+        } = self;
+    }
 }
 
 impl Gateway {
@@ -53,7 +61,6 @@ impl Gateway {
 }
 
 /// The connections of all doors over one listening socket.
-#[derive(Drop)]
 pub struct Entrance<'a, R: Wait + time::Clock> {
     rt: &'a R,
     alloc: Global,
@@ -68,6 +75,24 @@ pub struct Entrance<'a, R: Wait + time::Clock> {
     swept: AtomicU64,
     limits: Limits,
     address: SocketAddr,
+}
+
+impl<R: Wait + time::Clock> Drop for Entrance<'_, R> {
+    fn drop(self) {
+        let Entrance {
+            rt: _,
+            alloc: _,
+            waits: _,
+            gateway: _,
+            front: _,
+            table: _,
+            open: _,
+            shut: _,
+            swept: _,
+            limits: _,
+            address: _,
+        } = self;
+    }
 }
 
 /// A listener whose accepted streams have these options from it.
@@ -170,6 +195,7 @@ impl<'a, R: Wait + time::Clock> Entrance<'a, R> {
         match line.advance(piece) {
             Step::Serve => return Some(line),
             Step::Wait => self.park(line),
+            Step::Finish => self.finish(line),
             Step::Close => self.close(line),
         }
         None

@@ -5,7 +5,7 @@ ghost use Rattle.ocm_limits.specs.Limits.{most_exchange_bytes};
 use crate::pauses::Pauses;
 use crate::streams::{read_now, write_now};
 use crate::waits::millis;
-use ocm_base::Bytes;
+use ocm_base::{Bytes, and};
 use ocm_limits::MOST_EXCHANGE_BYTES;
 use std::alloc::{AllocError, Global};
 use std::net::{Net, TcpListener, TcpStream, ToSocketAddrs};
@@ -149,12 +149,22 @@ fn bounded(reply: Vec<u8>) -> Result<Bytes, ExchangeFault>
 }
 
 /// An exchange that goes on.
-#[derive(Drop)]
 struct Course<'a, R: time::Clock> {
     rt: &'a R,
     stream: TcpStream,
     start: u64,
     moved: u64,
+}
+
+impl<R: time::Clock> Drop for Course<'_, R> {
+    fn drop(self) {
+        let Course {
+            rt: _,
+            stream: _,
+            start: _,
+            moved: _,
+        } = self;
+    }
 }
 
 impl<'a, R: time::Clock> Course<'a, R> {
@@ -187,9 +197,17 @@ impl<'a, R: time::Clock> Course<'a, R> {
     fn receive(&mut self, alloc: Global) -> Result<Vec<u8>, ExchangeFault> {
         let mut piece = Vec::from_elem(alloc, 0u8, PIECE)?;
         let mut reply = Vec::new(alloc);
+        let received = self.receive_into(&mut reply, &mut piece);
+        drop(piece);
+        let (reply, ()) = and(reply, received)?;
+        Ok(reply)
+    }
+
+    /// Puts what comes until the peer closes behind a reply, by pieces.
+    fn receive_into(&mut self, reply: &mut Vec<u8>, piece: &mut [u8]) -> Result<(), ExchangeFault> {
         for _ in 0..=MOST_EXCHANGE_BYTES {
-            match read_now(&self.stream, &mut piece) {
-                Ok(Some(0)) => return Ok(reply),
+            match read_now(&self.stream, piece) {
+                Ok(Some(0)) => return Ok(()),
                 Ok(Some(n)) if reply.len() <= MOST_EXCHANGE_BYTES && self.goes_on(n) =>
                     reply.extend_from_slice(&piece[..n])?,
                 _ => return Err(ExchangeFault::Failed),

@@ -4,6 +4,7 @@ ghost use Rattle.std.specs.Prelude.{◌≤◌, ◌++◌, IfSome, length};
 use crate::streams::{read_now, write_now};
 use crate::waits::{Waits, Wanted, millis};
 use crate::wholes::Look;
+use ocm_heads::blanks;
 use std::alloc::Global;
 use std::net::{Shutdown, TcpStream};
 use std::os::fd::{AsRawFd, RawFd};
@@ -14,9 +15,12 @@ use std::{mem, time};
 /// How long a read lingers for the next message, and a write for room, in milliseconds.
 pub const LINGER: u64 = 2;
 
-/// How long a message may take from its first byte on, and a page to be sent, in milliseconds, beside one for each four
-/// bytes. What looks at it comes every half second.
+/// How long a message may take from its first byte on, and a page to be sent, in milliseconds, beside what their bytes
+/// take at the least rate. What looks at it comes every half second.
 const MESSAGE: u64 = 9_000;
+
+/// The least rate of a peer, in bytes a millisecond.
+const RATE: u64 = 4;
 
 /// How long what comes after a last page is passed over, in milliseconds.
 const CLOSING: u64 = 2_000;
@@ -32,7 +36,7 @@ const MOST_TURNS: u32 = 64;
 const HELD_IN_ANY_CASE: u64 = 8_192;
 
 /// How many bytes of a message that isn't whole are gathered at most. The longest has less, where its chunk lines have
-/// only a size without zeros in front.
+/// only a size without zeros in front. One of which more came is refused.
 const MOST_AHEAD: usize = 8_388_608;
 
 /// How many bytes of one connection are kept unsent at most.
@@ -44,6 +48,10 @@ const PIECE: usize = 8_192;
 /// What a client that waits for it is told.
 const CONTINUE: &[u8] = b"HTTP/1.1 100 Continue\r\n\r\n";
 
+/// What a client is told of whose message too much came. It is the page of each message with a fault.
+const REFUSED: &[u8] =
+    b"HTTP/1.1 400 Bad Request\r\nContent-Length: 0\r\nConnection: close\r\n\r\n";
+
 /// What is to be done with a line that the set told of.
 #[derive(Clone, Copy)]
 pub enum Step {
@@ -51,6 +59,8 @@ pub enum Step {
     Serve,
     /// It waits for more.
     Wait,
+    /// Its last page was taken: it is closed once that is sent.
+    Finish,
     /// It is closed.
     Close,
 }
@@ -67,7 +77,6 @@ enum Incoming {
 }
 
 /// A stream, with the bytes that came ahead of a read, and those that were taken and are not sent yet.
-#[derive(Drop)]
 pub struct Line<'a, R: time::Clock> {
     rt: &'a R,
     alloc: Global,
@@ -93,14 +102,44 @@ pub struct Line<'a, R: time::Clock> {
     listed: bool,
     /// No more messages are served: what is unsent is sent, and what comes is passed over.
     closing: bool,
-    /// Since when it rests, or its message or the sending of its page goes on, in milliseconds.
+    /// Since when it rests or its message comes, in milliseconds.
     since: u64,
-    /// How many bytes moved since.
+    /// How many bytes came since.
     moved: u64,
+    /// When a peer of the least rate would have all that the system took of its pages, in milliseconds.
+    reached: u64,
     /// How many of its bytes are counted in the set.
     held: u64,
     /// How often it went on in a row without being handed back.
     turns: u32,
+}
+
+impl<R: time::Clock> Drop for Line<'_, R> {
+    fn drop(self) {
+        let Line {
+            rt: _,
+            alloc: _,
+            waits: _,
+            stream: _,
+            incoming: _,
+            ahead: _,
+            used: _,
+            whole: _,
+            look: _,
+            piece: _,
+            unsent: _,
+            sent: _,
+            resting: _,
+            slow: _,
+            listed: _,
+            closing: _,
+            since: _,
+            moved: _,
+            reached: _,
+            held: _,
+            turns: _,
+        } = self;
+    }
 }
 
 impl<'a, R: time::Clock> Line<'a, R> {
@@ -125,6 +164,7 @@ impl<'a, R: time::Clock> Line<'a, R> {
             closing: false,
             since: millis(rt),
             moved: 0,
+            reached: 0,
             held: 0,
             turns: 0,
         }
@@ -163,20 +203,22 @@ impl<'a, R: time::Clock> Line<'a, R> {
     /// The time from which on it is dropped where it waits in the set, by how long a connection may rest between two
     /// messages.
     pub fn limit(&self, rest: u64) -> u64 {
-        if self.has_unsent() || !self.ahead.is_empty() {
-            self.late_at()
+        if self.has_unsent() {
+            self.reached.saturating_add(MESSAGE)
         } else if self.closing {
             self.since.saturating_add(CLOSING)
+        } else if has_begun(&self.ahead) {
+            self.late_at()
         } else {
             self.since.saturating_add(rest)
         }
     }
 
-    /// When the message, or the page, that began then is late.
+    /// When the message that comes is late.
     fn late_at(&self) -> u64 {
         self.since
             .saturating_add(MESSAGE)
-            .saturating_add(self.moved / 4)
+            .saturating_add(self.moved / RATE)
     }
 
     /// Begins to count the time anew.
@@ -261,10 +303,21 @@ impl<'a, R: time::Clock> Line<'a, R> {
         self.fill(piece);
         if self.has_message() || (self.has_ended() && self.has_part()) {
             Step::Serve
-        } else if self.has_ended() || self.ahead.len() > MOST_AHEAD {
+        } else if self.has_ended() {
             Step::Close
+        } else if self.ahead.len() > MOST_AHEAD {
+            self.refuse()
         } else {
             Step::Wait
+        }
+    }
+
+    /// Refuses a message of which too much came.
+    fn refuse(&mut self) -> Step {
+        if self.write(REFUSED, &[]) {
+            Step::Finish
+        } else {
+            Step::Close
         }
     }
 
@@ -280,7 +333,7 @@ impl<'a, R: time::Clock> Line<'a, R> {
 
     /// Puts bytes behind those that are ahead. Answers whether there was memory for them.
     fn gather(&mut self, piece: &[u8]) -> bool {
-        if self.ahead.is_empty() {
+        if !has_begun(&self.ahead) && has_begun(piece) {
             self.begin();
         }
         self.moved = self.moved.saturating_add(piece.len() as u64);
@@ -296,18 +349,9 @@ impl<'a, R: time::Clock> Line<'a, R> {
         self.whole > 0
     }
 
-    /// Tells the peer to send the body that it announced (RFC 9110 section 15.2.1), behind what is not sent yet.
+    /// Tells the peer to send the body that it announced (RFC 9110 section 15.2.1).
     fn send_continue(&mut self) {
-        let sent = if self.has_unsent() {
-            Some(0)
-        } else {
-            write_now(&self.stream, CONTINUE, &[])
-        };
-        let is_kept = match sent {
-            Some(n) => self.keep(CONTINUE.get(n..).unwrap_or_default()),
-            None => false,
-        };
-        if !is_kept {
+        if !self.send(CONTINUE, &[]) {
             self.incoming = Incoming::Broken;
         }
     }
@@ -349,12 +393,17 @@ impl<'a, R: time::Clock> Line<'a, R> {
         }
         self.turns += 1;
         self.linger_again();
+        self.fill_lingering() && (self.has_ended() || self.has_message())
+    }
+
+    /// Reads what comes while the line lingers. Answers whether there was memory for that.
+    fn fill_lingering(&mut self) -> bool {
         let Some(mut piece) = self.take_piece() else {
             return false;
         };
         self.fill(&mut piece);
         self.piece = piece;
-        self.has_ended() || self.has_message()
+        true
     }
 
     /// The piece of reads that linger, which the line then doesn't have. None where there is no memory for one.
@@ -422,20 +471,33 @@ impl<'a, R: time::Clock> Line<'a, R> {
         self.slow
     }
 
-    /// Takes all of both pieces, one behind the other: sends what goes at once, in one call of the system, and keeps the
-    /// rest to be sent by whoever is told that the peer takes more. Answers whether it took them.
+    /// Takes all of both pieces of a page, one behind the other. What comes next is another message. Answers whether it
+    /// took them.
     pub fn write(&mut self, first: &[u8], second: &[u8]) -> bool {
         self.resting = false;
+        self.begin();
+        self.send(first, second)
+    }
+
+    /// Takes all of both pieces, one behind the other and behind what is unsent: sends what goes at once, in one call of
+    /// the system, and keeps the rest to be sent by whoever is told that the peer takes more. Answers whether it took them.
+    fn send(&mut self, first: &[u8], second: &[u8]) -> bool {
         let mut done = 0;
         if !self.has_unsent() {
-            self.begin();
+            self.reached = self.reached.max(self.since);
             let Some(n) = write_now(&self.stream, first, second) else {
                 return false;
             };
+            self.count_sent(n);
             done = n;
         }
         let (front, back) = behind(first, second, done);
         self.keep(front) && self.keep(back)
+    }
+
+    /// Counts bytes that the system took.
+    fn count_sent(&mut self, n: usize) {
+        self.reached = self.reached.saturating_add(n as u64 / RATE);
     }
 
     /// Keeps bytes to be sent later. Answers whether there was room for them, of its own and of all connections.
@@ -451,7 +513,7 @@ impl<'a, R: time::Clock> Line<'a, R> {
             return false;
         };
         self.sent = self.sent.saturating_add(n);
-        self.moved = self.moved.saturating_add(n as u64);
+        self.count_sent(n);
         if !self.has_unsent() {
             self.unsent = Vec::new(self.alloc);
             self.sent = 0;
@@ -460,6 +522,11 @@ impl<'a, R: time::Clock> Line<'a, R> {
         }
         true
     }
+}
+
+/// Whether some of these bytes are of a message. CR and LF before one are not (RFC 9112 section 2.2).
+fn has_begun(bytes: &[u8]) -> bool {
+    blanks(bytes) < bytes.len()
 }
 
 /// What two pieces have behind their first bytes.

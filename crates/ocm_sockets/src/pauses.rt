@@ -27,18 +27,32 @@ const LOOK: u64 = 2;
 /// each of which is left alone for four times as long as that took, and at least for a second: else a silent peer would
 /// hold every worker, one that never settles a message would be asked behind each connection for each message that is
 /// due, and two servers with such messages for each other would go on asking each other.
-#[derive(Drop)]
 pub struct Pauses {
     noted: Mutex<Vec<Noted>>,
 }
 
+impl Drop for Pauses {
+    fn drop(self) {
+        let Pauses { noted: _ } = self;
+    }
+}
+
 /// A host that is tried now, or was tried last in vain.
-#[derive(Drop)]
 struct Noted {
     host: String,
     is_tried: bool,
     /// Until when others wait for the try, or else until when nobody tries it, in milliseconds.
     until: u64,
+}
+
+impl Drop for Noted {
+    fn drop(self) {
+        let Noted {
+            host: _,
+            is_tried: _,
+            until: _,
+        } = self;
+    }
 }
 
 /// What one who wants a host is to do.

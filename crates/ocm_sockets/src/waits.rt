@@ -31,12 +31,22 @@ pub enum Wanted {
 }
 
 /// The set (epoll(7)), how many workers wait at it, and how many bytes the connections hold.
-#[derive(Drop)]
 pub struct Waits {
     set: OwnedFd,
     waker: OwnedFd,
     waiting: AtomicU64,
     held: AtomicU64,
+}
+
+impl Drop for Waits {
+    fn drop(self) {
+        let Waits {
+            set: _,
+            waker: _,
+            waiting: _,
+            held: _,
+        } = self;
+    }
 }
 
 impl Waits {

@@ -9,8 +9,8 @@ use Rattle.ocm_types.specs.Rights.{is_any, perms_from}
 use Rattle.ocm_types.specs.Texts.{is_name, is_share_name, is_provider_id, is_sender_id, is_secret, name_of, share_name_of, provider_id_of, sender_id_of, secret_of}
 use Rattle.ocm_types.proofs.AddressReading.{canonical_address_of-is}
 use Rattle.ocm_path.specs.Paths.{path_text}
+use Rattle.ocm_path.specs.PathTexts.{path_with_text}
 use Rattle.ocm_spelling.specs.declared.entry_faults.EntryFault.TheVariants as faults
-use Rattle.ocm_spelling.specs.PathTexts.{path_with_text}
 use Rattle.ocm_spelling.specs.Spells.{AreBytes, two_bytes, four_bytes, eight_bytes, text, counted, rights, rights_number, optional, carry_number, carry_byte, IsOwnText, itself, IsName, IsShareName, IsProviderId, IsSenderId, IsSecret, IsAddress, IsShortPath, IsPerms, IsFresh, IsBody}
 use Rattle.ocm_spelling.specs.Reading.{◌>>=◌, Reading, reads1, found, byte_at, bytes_at, two_bytes_at, four_bytes_at, eight_bytes_at, text_at, text_as, name_at, share_name_at, provider_id_at, sender_id_at, secret_at, address_at, path_at, body_at, fresh_at, has_bit, rights_of_number, perms_of_number, perms_at, flag_at, optional_at, carry_of_number, carry_byte_at}
 use Rattle.ocm_spelling.proofs.FieldLaws.{AreBytes-tail, bind_ok, guard_ok, guard_passed, chosen_ok, found_ok, done, ok_is, Takes, IsField, bytes_take, bytes_again, byte_take, byte_again, number_field, wide16, wide32, wide64}

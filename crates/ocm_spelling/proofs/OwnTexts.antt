@@ -13,7 +13,7 @@ use Rattle.ocm_types.specs.Texts.{is_allowed, has_length, is_text, is_name, is_s
 use Rattle.ocm_types.proofs.AddressReading.{address_of-parts, canonical_address_of-is}
 use Rattle.ocm_types.proofs.HostPorts.{hosts_only}
 use Rattle.ocm_path.specs.Paths.{Segments, path_text}
-use Rattle.ocm_spelling.specs.PathTexts.{path_with_text}
+use Rattle.ocm_path.specs.PathTexts.{path_with_text}
 use Rattle.ocm_entry.specs.Proper.{is_short}
 use Rattle.ocm_spelling.specs.Spells.{IsName, IsShareName, IsProviderId, IsSenderId, IsSecret, IsAddress, IsShortPath}
 

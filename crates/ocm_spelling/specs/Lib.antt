@@ -1,3 +1,2 @@
-pub mod PathTexts
 pub mod Reading
 pub mod Spells

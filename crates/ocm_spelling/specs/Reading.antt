@@ -12,6 +12,7 @@ use Rattle.ocm_types.specs.Addresses.{canonical_address_of}
 use Rattle.ocm_types.specs.Rights.{perms_from}
 use Rattle.ocm_types.specs.Texts.{name_of, share_name_of, provider_id_of, sender_id_of, secret_of}
 use Rattle.ocm_path.specs.Paths.{Segments}
+use Rattle.ocm_path.specs.PathTexts.{path_with_text}
 use Rattle.ocm_entry.specs.declared.asks.Ask.{Ask}
 use Rattle.ocm_entry.specs.declared.asks.Ask.TheVariants as asks
 use Rattle.ocm_entry.specs.declared.asks.Cmd.{Cmd}
@@ -20,7 +21,6 @@ use Rattle.ocm_entry.specs.declared.asks.Method.{Method}
 use Rattle.ocm_entry.specs.declared.asks.Method.TheVariants as methods
 use Rattle.ocm_spelling.specs.declared.entry_faults.EntryFault.{EntryFault}
 use Rattle.ocm_spelling.specs.declared.entry_faults.EntryFault.TheVariants as faults
-use Rattle.ocm_spelling.specs.PathTexts.{path_with_text}
 
 -- one reading after another, up to the first fault
 infixl 10 ◌>>=◌

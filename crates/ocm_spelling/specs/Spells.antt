@@ -12,13 +12,13 @@ use Rattle.ocm_types.specs.Addresses.{address_text, canonical_address_of}
 use Rattle.ocm_types.specs.Rights.{is_any}
 use Rattle.ocm_types.specs.Texts.{name_of, share_name_of, provider_id_of, sender_id_of, secret_of}
 use Rattle.ocm_path.specs.Paths.{Segments, path_text}
+use Rattle.ocm_path.specs.PathTexts.{path_with_text}
 use Rattle.ocm_entry.specs.declared.asks.Ask.{Ask}
 use Rattle.ocm_entry.specs.declared.asks.Ask.TheVariants as asks
 use Rattle.ocm_entry.specs.declared.asks.Cmd.{Cmd}
 use Rattle.ocm_entry.specs.declared.asks.Cmd.TheVariants as commands
 use Rattle.ocm_entry.specs.declared.asks.Method.{Method}
 use Rattle.ocm_entry.specs.declared.asks.Method.TheVariants as methods
-use Rattle.ocm_spelling.specs.PathTexts.{path_with_text}
 use Rattle.ocm_entry.specs.Proper.{is_short}
 
 -- ---- the fields

@@ -8,7 +8,6 @@ ghost use Rattle.ocm_spelling.specs.Reading as reading;
 ghost use Rattle.ocm_spelling.specs.Reading.{Gives};
 
 use crate::entry_faults::EntryFault;
-use crate::path_texts::read_path_text;
 use ocm_base::Bytes;
 use ocm_path::Path;
 use ocm_types::{Address, Name, Perms, ProviderId, Rights, Secret, SenderId, ShareName, TextFault};
@@ -175,7 +174,7 @@ pub fn path_at(alloc: Global, bytes: &[u8]) -> Result<(Path, &[u8]), EntryFault>
     ensures { Gives (λ x. (x.0, x.1.now)) result (reading.path_at bytes.now) }
 {
     let (text, rest) = text_at(bytes)?;
-    match read_path_text(alloc, text)? {
+    match Path::of_text(alloc, text)? {
         Some(path) => Ok((path, rest)),
         None => Err(EntryFault::Value),
     }

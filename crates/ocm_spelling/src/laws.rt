@@ -2,8 +2,8 @@
 
 ghost use Rattle.std.specs.Prelude.{◌≡◌, ◌<◌, ◌≤◌, ◌++◌, [], List, ℕ, length, Some, Ok, IsTrue};
 ghost use Rattle.ocm_path.specs.Paths.{path_text};
+ghost use Rattle.ocm_path.specs.PathTexts.{path_with_text};
 ghost use Rattle.ocm_entry.specs.declared.asks.Ask as asks;
-ghost use Rattle.ocm_spelling.specs.PathTexts.{path_with_text};
 ghost use Rattle.ocm_spelling.specs.Reading.{ask_of};
 ghost use Rattle.ocm_entry.specs.Proper.{is_short};
 ghost use Rattle.ocm_spelling.specs.Spells.{AreBytes, Spells, has_spelling};

@@ -8,7 +8,6 @@ mod encoding;
 mod entry_faults;
 mod fields;
 pub mod laws;
-mod path_texts;
 
 pub use decoding::decode;
 pub use encoding::{encode, has_spelling};

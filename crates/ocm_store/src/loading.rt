@@ -126,7 +126,7 @@ impl<D: Disk> Store<D> {
     pub fn into_disk(self) -> D
         ensures { result ≡ disk_of self }
     {
-        self.journal.into_disk()
+        self.into_journal().into_disk()
     }
 }
 

@@ -12,7 +12,6 @@ use std::alloc::Global;
 use std::marker::Model;
 
 /// The tables of one server.
-#[derive(Drop)]
 pub struct Tables {
     pub(crate) alloc: Global,
     pub(crate) host: Host,
@@ -26,6 +25,23 @@ pub struct Tables {
     pub(crate) outbox: Outbox,
     /// How many changes there were.
     pub(crate) entries: u64,
+}
+
+impl Drop for Tables {
+    fn drop(self) {
+        let Tables {
+            alloc: _,
+            host: _,
+            users: _,
+            shares: _,
+            limits: _,
+            files: _,
+            inbox: _,
+            board: _,
+            outbox: _,
+            entries: _,
+        } = self;
+    }
 }
 
 impl Model for Tables {

@@ -5,6 +5,14 @@
 #![tactic(auto)]
 
 #[cfg(test)]
+mod assertions;
+#[cfg(test)]
 mod disks;
 #[cfg(test)]
+mod files;
+#[cfg(test)]
+mod shelves;
+#[cfg(test)]
 mod streams;
+#[cfg(test)]
+mod values;

@@ -1,44 +1,24 @@
-//! Sources and sinks that fail, clocks, a gate, lists and bytes.
-ghost use Rattle.std.specs.Prelude.{◌<◌};
-
+//! Sources and sinks that fail.
+use crate::assertions::holds;
+use crate::values::{bytes_of, calls};
 use ocm_base::{
-    Bytes, Clock, Copied, Failed, Gate, Joined, List, MemClock, MemSink, MemSource, PureSink,
-    PureSource, ReadEnd, Sink, Source, StdSink, StdSource, Text, read_whole, write_all,
+    Bytes, Joined, List, MemSink, MemSource, PureSink, PureSource, ReadEnd, Sink, Source, StdSink,
+    StdSource, read_whole, write_all,
 };
 use std::alloc::Global;
 use std::io;
 use std::io::ErrorKind;
 use std::process::Abort;
 
-fn bytes_of<R: Abort>(rt: &R, alloc: Global, bytes: &[u8]) -> Bytes {
-    Bytes::of(alloc, bytes).expect(rt, "no memory")
+/// Asserts that a source of at most so many bytes is read to its end, and that these are they.
+fn reads<R: Abort, S: Source>(rt: &R, alloc: Global, source: &mut S, limit: u64, whole: &[u8]) {
+    let read = read_whole(alloc, source, limit).ok();
+    are(rt, read.expect(rt, "the source is read to its end"), whole);
 }
 
-fn calls<R: Abort>(rt: &R, alloc: Global, listed: &[u64]) -> List<u64> {
-    let mut numbers = List::new(alloc);
-    for number in listed {
-        numbers.push(*number).expect(rt, "no memory");
-    }
-    numbers
-}
-
-/// A sink that takes three bytes a call.
-fn sink_of<R: Abort>(rt: &R, alloc: Global, fails: List<u64>, room: usize) -> MemSink {
-    MemSink::new(alloc, 3, fails, room).expect(rt, "no memory")
-}
-
-fn ends(read: Result<Bytes, ReadEnd>, end: ReadEnd) -> bool {
-    match read {
-        Ok(_) => false,
-        Err(found) => found == end,
-    }
-}
-
-fn is(read: Result<Bytes, ReadEnd>, whole: &[u8]) -> bool {
-    match read {
-        Ok(bytes) => bytes.as_slice() == whole,
-        Err(_) => false,
-    }
+fn are<R: Abort>(rt: &R, bytes: Bytes, whole: &[u8]) {
+    holds(rt, "these are the bytes", bytes.as_slice() == whole);
+    drop(bytes);
 }
 
 #[test]
@@ -46,29 +26,62 @@ fn a_source_fails_at_the_listed_calls(rt: HostRuntime) {
     let alloc = rt.alloc();
     let bytes = bytes_of(&rt, alloc, b"abcde");
     let mut source = MemSource::new(bytes, 2, calls(&rt, alloc, &[2]));
-    let first = ends(read_whole(alloc, &mut source, 9), ReadEnd::ReadFault);
-    let second = is(read_whole(alloc, &mut source, 9), b"cde");
-    assert_eq!(rt; (first, second), (true, true));
+    let end = read_whole(alloc, &mut source, 9).err();
+    holds(
+        &rt,
+        "the second call fails",
+        end == Some(ReadEnd::ReadFault),
+    );
+    reads(&rt, alloc, &mut source, 9, b"cde");
+}
+
+/// A sink that takes three bytes a call.
+fn sink_of<R: Abort>(rt: &R, alloc: Global, fails: List<u64>, room: usize) -> MemSink {
+    MemSink::new(alloc, 3, fails, room).expect(rt, "no memory")
+}
+
+/// Asserts that these are all bytes that a sink took.
+fn took<R: Abort>(rt: &R, sink: &MemSink, bytes: &[u8]) {
+    holds(rt, "what a sink took", sink.bytes().as_slice() == bytes);
 }
 
 #[test]
 fn a_sink_fails_at_the_listed_calls(rt: HostRuntime) {
     let alloc = rt.alloc();
     let mut sink = sink_of(&rt, alloc, calls(&rt, alloc, &[2]), 5);
-    assert_eq!(rt; write_all(&mut sink, b"abcd"), Err(Failed));
-    assert_eq!(rt; sink.bytes().as_slice(), b"abc".as_slice());
-    assert_eq!(rt; write_all(&mut sink, b"def"), Err(Failed));
-    assert_eq!(rt; write_all(&mut sink, b""), Ok(()));
-    assert_eq!(rt; sink.into_bytes().as_slice(), b"abcde".as_slice());
+    fails_and_is_full(&rt, &mut sink);
+    are(&rt, sink.into_bytes(), b"abcde");
+}
+
+fn fails_and_is_full<R: Abort>(rt: &R, sink: &mut MemSink) {
+    holds(
+        rt,
+        "the second call fails",
+        write_all(sink, b"abcd").is_err(),
+    );
+    took(rt, sink, b"abc");
+    holds(rt, "the sink is full", write_all(sink, b"def").is_err());
+    holds(rt, "no bytes are written", write_all(sink, b"").is_ok());
 }
 
 #[test]
 fn pure_forms_read_and_write_all(rt: HostRuntime) {
     let alloc = rt.alloc();
     let mut source = PureSource::new(bytes_of(&rt, alloc, b"abcde"), 2);
-    let whole = is(read_whole(alloc, &mut source, 5), b"abcde");
-    assert!(rt; whole);
-    assert_eq!(rt; write_all(&mut PureSink::new(), b"abcde"), Ok(()));
+    reads(&rt, alloc, &mut source, 5, b"abcde");
+    let written = write_all(&mut PureSink::new(), b"abcde");
+    holds(&rt, "a pure sink takes all", written.is_ok());
+}
+
+#[test]
+fn two_parts_are_written_in_their_order(rt: HostRuntime) {
+    let alloc = rt.alloc();
+    let front = bytes_of(&rt, alloc, b"head");
+    let both = Joined::of(front, bytes_of(&rt, alloc, b"body"));
+    let mut sink = sink_of(&rt, alloc, List::new(alloc), 8);
+    holds(&rt, "both are written", both.write_to(&mut sink).is_ok());
+    took(&rt, &sink, b"headbody");
+    holds(&rt, "how many bytes both have", both.len() == 8);
 }
 
 /// A reader and writer that is interrupted, moves two bytes, and then breaks.
@@ -107,77 +120,13 @@ impl io::Write for Breaking {
 fn a_reader_is_tried_again_until_it_breaks(rt: HostRuntime) {
     let mut source = StdSource::new(Breaking { calls: 0 });
     let mut buf = [0u8; 8];
-    assert_eq!(rt; source.read(&mut buf), Ok(2));
-    assert_eq!(rt; source.read(&mut buf), Err(Failed));
+    holds(&rt, "two bytes are read", source.read(&mut buf) == Ok(2));
+    holds(&rt, "the reader breaks", source.read(&mut buf).is_err());
 }
 
 #[test]
 fn a_writer_that_takes_nothing_has_failed(rt: HostRuntime) {
     let mut sink = StdSink::new(Breaking { calls: 0 });
-    assert_eq!(rt; sink.write(b"abcd"), Ok(2));
-    assert_eq!(rt; sink.write(b"cd"), Err(Failed));
-}
-
-fn add<R: Abort>(rt: &R, alloc: Global, list: &mut List<Text>, word: &str) {
-    let word = Text::of(alloc, word).expect(rt, "no memory");
-    list.push(word).expect(rt, "no memory");
-}
-
-fn is_word(text: Option<Text>, word: &str) -> bool {
-    match text {
-        Some(text) => text.as_str() == word,
-        None => false,
-    }
-}
-
-#[test]
-fn copies_each_element(rt: HostRuntime) {
-    let alloc = rt.alloc();
-    let mut list = List::new(alloc);
-    add(&rt, alloc, &mut list, "one");
-    add(&rt, alloc, &mut list, "two");
-    let mut copy = list.copied().expect(&rt, "no memory");
-    assert!(rt; copy == list);
-    let last = is_word(copy.pop(), "two");
-    assert!(rt; last);
-    assert!(rt; copy < list);
-}
-
-#[test]
-fn shared_bytes_part_where_one_grows(rt: HostRuntime) {
-    let alloc = rt.alloc();
-    let bytes = bytes_of(&rt, alloc, &[7u8; 300]);
-    let mut copy = bytes.copy().expect(&rt, "no memory");
-    copy.add(b"x").expect(&rt, "no memory");
-    assert_eq!(rt; bytes.as_slice(), [7u8; 300].as_slice());
-    assert_eq!(rt; copy.len(), 301);
-    assert_eq!(rt; copy.as_slice().last(), Some(&b'x'));
-}
-
-#[test]
-fn two_parts_are_written_in_their_order(rt: HostRuntime) {
-    let alloc = rt.alloc();
-    let front = bytes_of(&rt, alloc, b"head");
-    let both = Joined::of(front, bytes_of(&rt, alloc, b"body"));
-    let mut sink = sink_of(&rt, alloc, List::new(alloc), 8);
-    assert_eq!(rt; both.write_to(&mut sink), Ok(()));
-    assert_eq!(rt; sink.bytes().as_slice(), b"headbody".as_slice());
-    assert_eq!(rt; both.len(), 8);
-}
-
-#[test]
-fn clocks_stay_at_their_last_value(rt: HostRuntime) {
-    let alloc = rt.alloc();
-    let mut clock = MemClock::new(calls(&rt, alloc, &[5, 9]));
-    let times = (clock.now(), clock.now(), clock.now());
-    assert_eq!(rt; times, (5, 9, 9));
-    assert_eq!(rt; MemClock::new(List::new(alloc)).now(), 0);
-}
-
-#[test]
-fn a_gate_stays_set(rt: HostRuntime) {
-    let gate = Gate::new();
-    assert!(rt; !gate.is_set());
-    gate.set();
-    assert!(rt; gate.is_set());
+    holds(&rt, "two bytes are taken", sink.write(b"abcd") == Ok(2));
+    holds(&rt, "no byte is taken", sink.write(b"cd").is_err());
 }

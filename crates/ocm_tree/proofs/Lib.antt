@@ -10,6 +10,7 @@ pub mod Leaves
 pub mod TableKept
 pub mod LeafGone
 pub mod SlotGone
+pub mod Lone
 pub mod Numbered
 pub mod Carried
 pub mod Listed

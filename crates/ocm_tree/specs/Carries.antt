@@ -1,9 +1,9 @@
-use Rattle.std.specs.Prelude.{◌≡◌, ℕ, ◌+◌, ◌&&◌, Bool, List, if◌then◌else◌, false, length, Option, Some, None}
+use Rattle.std.specs.Prelude.{◌≡◌, ℕ, ◌+◌, ◌&&◌, Bool, List, if◌then◌else◌, false, length, map, sum_by, Option, Some, None}
 use Rattle.ocm_types.specs.declared.phases.Which.{Which}
 use Rattle.ocm_entry.specs.declared.rows.Place.{Place}
 use Rattle.ocm_entry.specs.declared.rows.Node.{Node}
 use Rattle.ocm_rules.specs.Files.{same_place, is_at_or_above, parent_of, moved, stays, size_of, is_too_long, total_size, child_count, nodes_after, Carried}
-use Rattle.ocm_tree.specs.Tables.{first_passed}
+use Rattle.ocm_tree.specs.Tables.{Slots, cleared, first_passed, IsLone}
 use Rattle.ocm_tree.specs.declared.amounts.Amount.{Amount}
 use Rattle.ocm_tree.specs.declared.amounts.Amounts.{Amounts}
 use Rattle.ocm_tree.specs.declared.amounts.Amount.TheVariants.{Bytes, Nodes, Siblings}
@@ -35,11 +35,22 @@ abbrev pub amount_in : Amount → Place → Place → Bool → Option Node → �
 amount_in what from to moving None = 0
 amount_in what from to moving (Some n) = amount_of what from to moving n
 
+-- what the node of a slot adds to an amount as it stands
+abbrev pub weight_in : Amount → Place → Option Node → ℕ
+weight_in what to None = 0
+weight_in what to (Some n) = weight what to n
+
 -- these are the amounts that a function tells
 pub record AreAmounts (amounts : Amounts) (amount : Amount → ℕ) : Type 0 where
   pub bytes : amounts.bytes ≡ amount Bytes
   pub nodes : amounts.nodes ≡ amount Nodes
   pub siblings : amounts.siblings ≡ amount Siblings
+
+-- what is known where the slot of this index has the only node at and below a first place, nothing stands at a second one and below it, and these are the amounts of the nodes as they stand
+pub record IsLoneCarry (slots : Slots) (from to : Place) (index : ℕ) (all : Amounts) : Type 0 where
+  pub lone : IsLone slots from index
+  pub bare : slots ≡ map (cleared to) slots
+  pub amounts : AreAmounts all (λ what. sum_by (weight_in what to) slots)
 
 -- the nodes after a copy or move
 abbrev pub after : Place → Place → Bool → List Node → List Node

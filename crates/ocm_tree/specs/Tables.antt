@@ -1,4 +1,4 @@
-use Rattle.std.specs.Prelude.{◌≡◌, ℕ, ◌+◌, ◌≤◌, List, [], ◌∷◌, length, nat_lt, Bool, true, false, if◌then◌else◌, Option, Some, None, is_some, option_map}
+use Rattle.std.specs.Prelude.{◌≡◌, ℕ, ◌+◌, ◌<◌, ◌≤◌, List, [], ◌∷◌, length, map, nat_lt, slice_index_or, slice_set, Bool, true, false, if◌then◌else◌, Option, Some, None, is_some, option_map}
 use Rattle.std.specs.HashMap as hash
 use Rattle.std.specs.HashMap.{HashMap}
 use Rattle.std.specs.declared.hash.FoldHasher.{FoldHasher}
@@ -47,6 +47,12 @@ slot_of (Some node ∷ slots) place = if same_place node.place place then Some 0
 abbrev pub cleared : Place → Option Node → Option Node
 cleared there None = None
 cleared there (Some node) = if is_at_or_above there node.place then None else Some node
+
+-- whether the node of the slot of this index lies at or below a place, and no other node does
+pub record IsLone (slots : Slots) (there : Place) (index : ℕ) : Type 0 where
+  pub within : index < length slots
+  pub lies : slot_passes (λ (n : Node). is_at_or_above there n.place) (slice_index_or slots index None) ≡ true
+  pub others : slice_set slots index None ≡ map (cleared there) slots
 
 -- what is seen of slots with their indexes: the slots, and for how many more nodes there is room without memory
 pub record SlotLists : Type 0 where

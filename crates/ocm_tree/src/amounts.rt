@@ -4,7 +4,7 @@ ghost use Rattle.ocm_rules.specs.Files.{same_place, parent_of, moved, stays};
 ghost use Rattle.ocm_types.specs.declared.phases.Which.TheVariants.{PathLength};
 ghost use Rattle.ocm_tree.specs.declared.amounts.Amount.{Amount};
 ghost use Rattle.ocm_tree.specs.declared.amounts.Amount.TheVariants.{Bytes};
-ghost use Rattle.ocm_tree.specs.Carries.{amount_of, amount_in, AreAmounts, makes_long_path, makes_long};
+ghost use Rattle.ocm_tree.specs.Carries.{amount_of, amount_in, weight_in, AreAmounts, IsLoneCarry, makes_long_path, makes_long};
 
 use crate::branches::Branch;
 use crate::kept::KeptNode;
@@ -92,6 +92,51 @@ fn amounts_in(from: &Branch<'_>, to: &Branch<'_>, moving: bool, slot: &Option<Ke
             siblings: 0,
             long: false,
         },
+    }
+}
+
+/// What the node of a slot adds to the amounts as it stands.
+fn weights_in(to: &Branch<'_>, slot: &Option<KeptNode>) -> Amounts
+    ensures { AreAmounts result (λ what. weight_in what to.now slot.now) }
+{
+    match slot {
+        Some(kept) => Amounts {
+            bytes: size_of(kept.standing()),
+            nodes: 1,
+            siblings: u64::from(to.is_beside(kept)),
+            long: false,
+        },
+        None => Amounts {
+            bytes: 0,
+            nodes: 0,
+            siblings: 0,
+            long: false,
+        },
+    }
+}
+
+/// The amounts of the nodes after a copy or move of one node, given with the amounts of the nodes as
+/// they stand.
+pub fn amounts_by_one(
+    all: Amounts,
+    from: &Branch<'_>,
+    to: &Branch<'_>,
+    moving: bool,
+    slots: &[Option<KeptNode>],
+    index: usize,
+) -> Amounts
+    requires lone { IsLoneCarry slots.now from.now to.now index all }
+    requires few { (what : Amount) → sum_by (amount_in what from.now to.now moving) slots.now ≤ 4294967296 }
+    ensures amounts { AreAmounts result (λ what. sum_by (amount_in what from.now to.now moving) slots.now) }
+    ensures long { result.long ≡ list_any (makes_long from.now to.now) slots.now }
+{
+    let older = weights_in(to, &slots[index]);
+    let newer = amounts_in(from, to, moving, &slots[index]);
+    Amounts {
+        bytes: all.bytes - older.bytes + newer.bytes,
+        nodes: all.nodes - older.nodes + newer.nodes,
+        siblings: all.siblings - older.siblings + newer.siblings,
+        long: newer.long,
     }
 }
 

@@ -14,7 +14,6 @@ use std::marker::Model;
 
 /// A copy or move that is about to be made, with copies of all that it makes. Contracts see where from
 /// and to, whether it moves, and the nodes that it makes.
-#[derive(Drop)]
 pub struct PlannedCarry {
     from: Place,
     to: Place,
@@ -22,6 +21,18 @@ pub struct PlannedCarry {
     nodes: Vec<PlannedNode>,
     /// No numbers yet, with room for one of each node.
     numbers: Vec<u64>,
+}
+
+impl Drop for PlannedCarry {
+    fn drop(self) {
+        let PlannedCarry {
+            from: _,
+            to: _,
+            moving: _,
+            nodes: _,
+            numbers: _,
+        } = self;
+    }
 }
 
 impl Model for PlannedCarry {
@@ -99,7 +110,14 @@ impl PlannedCarry {
         ensures empty { result.4.items ≡ [] }
         ensures room { length self.nodes ≤ vec_capacity result.4 }
     {
-        (self.from, self.to, self.moving, self.nodes, self.numbers)
+        let PlannedCarry {
+            from,
+            to,
+            moving,
+            nodes,
+            numbers,
+        } = self;
+        (from, to, moving, nodes, numbers)
     }
 }
 

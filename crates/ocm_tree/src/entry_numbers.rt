@@ -17,11 +17,19 @@ const FEW: usize = 32;
 /// For each slot the number of the kept entry that put what stands there, or what stood there where the
 /// slot is empty, and the slots in the order of these numbers. Contracts see the numbers in the order of
 /// the slots, and for how many more there is room without memory.
-#[derive(Drop)]
 pub struct EntryNumbers {
     numbers: Vec<u64>,
     /// Each slot once, in the order of the numbers.
     order: Vec<NumberedNode>,
+}
+
+impl Drop for EntryNumbers {
+    fn drop(self) {
+        let EntryNumbers {
+            numbers: _,
+            order: _,
+        } = self;
+    }
 }
 
 impl Model for EntryNumbers {

@@ -1,4 +1,4 @@
-ghost use Rattle.std.specs.Prelude.{◌≡◌, ◌&&◌, ◌<◌, ◌≤◌, ◌-◌, true, false, Some, None, map, filter, length, is_some, option_map, if◌then◌else◌, option_copied, slice_get, slice_index_or, slice_set, take, vec_len, vec_capacity};
+ghost use Rattle.std.specs.Prelude.{◌≡◌, ◌&&◌, ◌<◌, ◌≤◌, ◌-◌, true, false, Some, None, map, filter, length, is_some, option_map, if◌then◌else◌, option_copied, slice_get, slice_index_or, slice_set, take, drop, vec_len, vec_capacity};
 ghost use Rattle.std.specs.HashMap as hash;
 ghost use Rattle.std.specs.HashMap.{spare};
 ghost use Rattle.ocm_entry.specs.declared.rows.Node.{Node};
@@ -39,6 +39,14 @@ pub fn standing_in(slots: &[Option<KeptNode>], index: usize) -> Option<&Standing
         Some(kept) => Some(kept.standing()),
         None => None,
     }
+}
+
+/// The slot of this index alone.
+pub fn one_of(slots: &[Option<KeptNode>], index: usize) -> &[Option<KeptNode>]
+    requires within { index < length slots.now }
+    ensures { result.now ≡ take 1 (drop index slots.now) }
+{
+    &slots[index..][..1]
 }
 
 /// Takes the node out of a slot that has one.

@@ -8,11 +8,20 @@ use std::marker::Model;
 
 /// A node that stands, with the place that it lies in, which is looked up, without memory, when the
 /// node goes, and with the trail of its own place. Contracts see the node.
-#[derive(Drop)]
 pub struct KeptNode {
     node: Node,
     parent: Place,
     trail: u64,
+}
+
+impl Drop for KeptNode {
+    fn drop(self) {
+        let KeptNode {
+            node: _,
+            parent: _,
+            trail: _,
+        } = self;
+    }
 }
 
 impl Model for KeptNode {

@@ -4,11 +4,11 @@
 //! while other nodes go, and hash indexes beside them, so that to look up, to put, and to remove a file or
 //! an empty collection take no time that grows with the number of nodes. A listing passes over one number
 //! for each slot, a tag of the place in which its node lies, and looks at the nodes with the tag of the
-//! collection; to remove a collection that is not empty, to copy and to move walk over all slots. Each
-//! node has a trail, a number of its user and its first segments: what lies at and below a place has its
-//! trail between two numbers, so that a walk compares numbers, and looks at few paths. What wants memory
-//! is planned first, as a [`PlannedNode`] or a [`PlannedCarry`], and room is taken for it; the change
-//! itself wants none.
+//! collection; to remove, copy or move a collection that is not empty walks over all slots, and so does a
+//! copy or move in the place of something. Each node has a trail, a number of its user and its first
+//! segments: what lies at and below a place has its trail between two numbers, so that a walk compares
+//! numbers, and looks at few paths. What wants memory is planned first, as a [`PlannedNode`] or a
+//! [`PlannedCarry`], and room is taken for it; the change itself wants none.
 //!
 //! For each slot it keeps the number of the kept entry that put what stands there, copied along by
 //! copies and moves, and the slots in the order of these numbers: [`Tree::standing_by`] finds what an
@@ -38,5 +38,6 @@ mod trees;
 
 pub use carries::PlannedCarry;
 pub use changes::FileChange;
+pub use places::is_at_or_above;
 pub use plans::PlannedNode;
 pub use trees::Tree;

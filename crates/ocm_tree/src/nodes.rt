@@ -1,14 +1,17 @@
-ghost use Rattle.std.specs.Prelude.{◌≡◌, ◌<◌, ◌≤◌, ◌+◌, ◌∷◌, ◌++◌, [], length, map, true, Some, None, is_some, filter, OnOk, option_copied, slice_set};
+ghost use Rattle.std.specs.Prelude.{◌≡◌, ◌<◌, ◌≤◌, ◌+◌, ◌∷◌, ◌++◌, [], length, map, true, Some, None, is_some, filter, sum_by, IfSome, OnOk, option_copied, slice_set};
+ghost use Rattle.std.specs.List.{list_any};
 ghost use Rattle.ocm_limits.specs.Limits.{most_nodes, most_stored_bytes};
 ghost use Rattle.ocm_entry.specs.declared.rows.Node.{Node};
-ghost use Rattle.ocm_rules.specs.Files.{size_of, parent_of, total_size, child_count, limit_of};
+ghost use Rattle.ocm_rules.specs.Files.{size_of, parent_of, is_at_or_above, total_size, child_count, limit_of};
 ghost use Rattle.ocm_rules.specs.State.{node_at, EachOnce};
-ghost use Rattle.ocm_tree.specs.Tables.{somes, slot_of, cleared, IsLeaf};
+ghost use Rattle.ocm_tree.specs.Tables.{somes, slot_of, cleared, IsLeaf, IsLone};
+ghost use Rattle.ocm_tree.specs.Carries.{amount_in, weight_in, makes_long, AreAmounts, IsLoneCarry};
 
+use crate::amounts::{Amounts, amounts_after, amounts_by_one};
 use crate::branches::Branch;
 use crate::indexes::{
-    are_both, counted, drop_count, drop_empty, number_places, put_in, remove_below, standing_in,
-    take_out,
+    are_both, counted, drop_count, drop_empty, number_places, one_of, put_in, remove_below,
+    standing_in, take_out,
 };
 use crate::kept::KeptNode;
 use crate::limits::{size_at, size_of};
@@ -21,7 +24,6 @@ use std::marker::Model;
 
 /// The nodes, each place once, in slots that keep their numbers while other nodes go, with indexes
 /// beside them. Contracts see the slots, and how many more nodes the table takes without memory.
-#[derive(Drop)]
 pub struct NodeTable {
     /// What stands at each user's root.
     root: Standing,
@@ -37,6 +39,20 @@ pub struct NodeTable {
     total: u64,
     /// Whether each node is known to lie in a user's root or where something stands.
     rooted: bool,
+}
+
+impl Drop for NodeTable {
+    fn drop(self) {
+        let NodeTable {
+            root: _,
+            slots: _,
+            places: _,
+            children: _,
+            count: _,
+            total: _,
+            rooted: _,
+        } = self;
+    }
 }
 
 impl Model for NodeTable {
@@ -191,6 +207,81 @@ impl NodeTable {
         ensures { result ≡ true → IsLeaf (somes self.now.slots) place.now }
     {
         self.rooted && counted(self.children.get(place)) == 0
+    }
+
+    /// The slot of the only node at and below a place, where it is known that no other is.
+    pub fn lone_slot(&self, place: &Place) -> Option<usize>
+        ensures { IfSome result (IsLone self.now.slots place.now) }
+    {
+        let _root = &self.root;
+        if self.is_leaf(place) {
+            self.slot_of(place)
+        } else {
+            None
+        }
+    }
+
+    /// Slots among which are all nodes at and below a place.
+    pub fn slots_below(&self, place: &Place) -> &[Option<KeptNode>]
+        ensures { filter (λ (n : Node). is_at_or_above place.now n.place) (somes result.now) ≡ filter (λ (n : Node). is_at_or_above place.now n.place) (somes self.now.slots) }
+    {
+        match self.lone_slot(place) {
+            Some(index) => one_of(&self.slots, index),
+            None => &self.slots,
+        }
+    }
+
+    /// Whether it is known that nothing stands at a place and below it.
+    fn is_bare(&self, place: &Place) -> bool
+        ensures { result ≡ true → self.now.slots ≡ map (cleared place.now) self.now.slots }
+    {
+        self.is_leaf(place) && self.slot_of(place).is_none()
+    }
+
+    /// The amounts of the nodes as they stand, with those of the collection in which a place lies. None
+    /// where memory runs out.
+    fn amounts_beside(&self, to: &Place) -> Option<Amounts>
+        ensures { IfSome result (λ all. AreAmounts all (λ what. sum_by (weight_in what to.now) self.now.slots)) }
+    {
+        if let Ok(path) = to.path.parent() {
+            let parent = Place {
+                user: to.user,
+                path,
+            };
+            Some(Amounts {
+                bytes: self.total_size(),
+                nodes: self.len() as u64,
+                siblings: u64::from(self.child_count(&parent)),
+                long: false,
+            })
+        } else {
+            None
+        }
+    }
+
+    /// The slot of the only node at and below `from`, and the amounts of the nodes as they stand, where
+    /// nothing stands at `to` and below it. None where this is not known without a walk over all slots.
+    fn lone_carry(&self, from: &Place, to: &Place) -> Option<(usize, Amounts)>
+        ensures { IfSome result (λ found. IsLoneCarry self.now.slots from.now to.now found.0 found.1) }
+    {
+        if !self.is_bare(to) {
+            return None;
+        }
+        match (self.lone_slot(from), self.amounts_beside(to)) {
+            (Some(index), Some(all)) => Some((index, all)),
+            _ => None,
+        }
+    }
+
+    /// The amounts of the nodes after a copy or move.
+    pub fn amounts_after(&self, from: &Branch<'_>, to: &Branch<'_>, moving: bool) -> Amounts
+        ensures amounts { AreAmounts result (λ what. sum_by (amount_in what from.now to.now moving) self.now.slots) }
+        ensures long { result.long ≡ list_any (makes_long from.now to.now) self.now.slots }
+    {
+        match self.lone_carry(from.place(), to.place()) {
+            Some((index, all)) => amounts_by_one(all, from, to, moving, &self.slots, index),
+            None => amounts_after(from, to, moving, &self.slots),
+        }
     }
 
     /// Lets nothing stand any more at a place below which nothing stands.

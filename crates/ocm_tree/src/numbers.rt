@@ -1,8 +1,8 @@
-ghost use Rattle.std.specs.Prelude.{◌≡◌, ◌≤◌, [], length, is_some, vec_capacity};
+ghost use Rattle.std.specs.Prelude.{◌≡◌, ◌≤◌, [], length, is_some, vec_capacity, IfSome};
 ghost use Rattle.ocm_entry.specs.declared.rows.Node.{Node};
 ghost use Rattle.ocm_rules.specs.Files.{is_at_or_above};
 ghost use Rattle.ocm_tree.specs.Orders.{numbers_where};
-ghost use Rattle.ocm_tree.specs.Tables.{slot_passes};
+ghost use Rattle.ocm_tree.specs.Tables.{slot_passes, IsLone};
 
 use crate::branches::Branch;
 use crate::kept::KeptNode;
@@ -33,13 +33,30 @@ fn lies_below(there: &Branch<'_>, slot: &Option<KeptNode>) -> bool
     }
 }
 
-/// Writes down the numbers of the nodes at and below a place. It takes no memory.
+/// Writes down the numbers of the nodes at and below a place, by a look at one slot where the only node
+/// there is known. It takes no memory.
 pub fn copy_numbers(
     kept: &mut Vec<u64>,
     numbers: &[u64],
     slots: &[Option<KeptNode>],
     there: &Branch<'_>,
+    lone: Option<usize>,
 )
+    requires same { length slots.now ≡ length numbers.now }
+    requires empty { kept.old.items ≡ [] }
+    requires room { length (numbers_where (slot_passes (λ (n : Node). is_at_or_above there.now n.place)) slots.now numbers.now) ≤ vec_capacity kept.old }
+    requires lone { IfSome lone (IsLone slots.now there.now) }
+    ensures { kept.new.items ≡ numbers_where (slot_passes (λ (n : Node). is_at_or_above there.now n.place)) slots.now numbers.now }
+{
+    match lone {
+        Some(index) => kept.push(numbers[index]).unwrap(),
+        None => copy_each(kept, numbers, slots, there),
+    }
+}
+
+/// Writes down the numbers of the nodes at and below a place, by a walk over all slots. It takes no
+/// memory.
+fn copy_each(kept: &mut Vec<u64>, numbers: &[u64], slots: &[Option<KeptNode>], there: &Branch<'_>)
     requires same { length slots.now ≡ length numbers.now }
     requires empty { kept.old.items ≡ [] }
     requires room { length (numbers_where (slot_passes (λ (n : Node). is_at_or_above there.now n.place)) slots.now numbers.now) ≤ vec_capacity kept.old }

@@ -8,11 +8,20 @@ use std::marker::Model;
 
 /// A node that is about to stand, with all that a tree needs to take it without memory. Contracts
 /// see the node.
-#[derive(Drop)]
 pub struct PlannedNode {
     kept: KeptNode,
     key: Place,
     parent: Place,
+}
+
+impl Drop for PlannedNode {
+    fn drop(self) {
+        let PlannedNode {
+            kept: _,
+            key: _,
+            parent: _,
+        } = self;
+    }
 }
 
 impl Model for PlannedNode {
@@ -70,6 +79,7 @@ impl PlannedNode {
         ensures key { result.1 ≡ self.place }
         ensures parent { result.2 ≡ parent_of self.place }
     {
-        (self.kept, self.key, self.parent)
+        let PlannedNode { kept, key, parent } = self;
+        (kept, key, parent)
     }
 }

@@ -10,7 +10,7 @@ ghost use Rattle.ocm_law_origins.specs.Origins.{Origin, body_from, copied, origi
 ghost use Rattle.ocm_tree.specs.Carries.{limit_after};
 ghost use Rattle.ocm_tree.specs.Changes.{act_of};
 
-use crate::amounts::{amounts_after, limit_of_paths};
+use crate::amounts::limit_of_paths;
 use crate::branches::Branch;
 use crate::carries::PlannedCarry;
 use crate::changes::{FileChange, Part};
@@ -33,7 +33,6 @@ use std::marker::Model;
 /// What stands on a server, each place once, with the number of the kept entry that put it there.
 /// Contracts see the list of the nodes, for each node its place and its number, and how many more nodes
 /// the tree takes without memory.
-#[derive(Drop)]
 pub struct Tree {
     table: NodeTable,
     /// The numbers of the nodes, in the order of their slots.
@@ -41,6 +40,16 @@ pub struct Tree {
     /// A tag for each slot, that of the place in which its node lies: nodes with other tags lie
     /// elsewhere, so that a listing looks at few.
     tags: Vec<u64>,
+}
+
+impl Drop for Tree {
+    fn drop(self) {
+        let Tree {
+            table: _,
+            numbers: _,
+            tags: _,
+        } = self;
+    }
 }
 
 impl Model for Tree {
@@ -235,7 +244,7 @@ impl Tree {
     {
         let source = Branch::new(from);
         let target = Branch::new(to);
-        let after = amounts_after(&source, &target, moving, self.table.slots());
+        let after = self.table.amounts_after(&source, &target, moving);
         let numbers = first_passed(after.bytes, after.nodes, after.siblings);
         (numbers, limit_of_paths(after.long))
     }
@@ -251,7 +260,8 @@ impl Tree {
         requires within { IsSomeAnd (node_at self.now.nodes from.now) (λ standing. limit_of_carry self.now.nodes from.now to.now moving standing ≡ None) }
         ensures { IfOk result (λ planned. planned ≡ record { from = from.now; to = to.now; moving = moving; nodes = copies from.now to.now self.now.nodes }) }
     {
-        PlannedCarry::new(self.table.allocator(), from, to, moving, self.table.slots())
+        let slots = self.table.slots_below(from);
+        PlannedCarry::new(self.table.allocator(), from, to, moving, slots)
     }
 
     /// Room for all that a copy or move makes.
@@ -278,6 +288,7 @@ impl Tree {
             self.numbers.numbers(),
             self.table.slots(),
             &Branch::new(&from),
+            self.table.lone_slot(&from),
         );
         self.clear(&from, &to, moving);
         push_tags(&mut self.tags, &nodes);

@@ -38,12 +38,17 @@ fn bell_of(ticket: u64) -> usize
 }
 
 /// The table behind a turnstile, with the steps that keep its rule.
-#[derive(Drop)]
 pub struct Board<T: Object> {
     table: Table<Option<T>, View<T::Terms>, Start<T>, Law<T>, Global>,
     limit: u64,
     ghost limits: { (table.shared.key.limit ≡ limit) × (1 ≤ limit) × (limit ≤ 2 ^ 63) },
     ghost counts: { (table.shared.table_id.words ≡ 66) × (table.shared.table_id.slots ≡ 1) },
+}
+
+impl<T: Object + Drop> Drop for Board<T> {
+    fn drop(self) {
+        let Board { table: _, limit: _ } = self;
+    }
 }
 
 impl<T: Object> Board<T> {

@@ -29,9 +29,14 @@ pub struct Shut<T> {
 /// Each call draws a ticket and waits for its turn. Whatever order the callers come in, all replies
 /// are those of one legal history. Threads share a turnstile by reference, and each has a [`Pass`] of
 /// its own.
-#[derive(Drop)]
 pub struct Turnstile<T: Object> {
     board: Board<T>,
+}
+
+impl<T: Object + Drop> Drop for Turnstile<T> {
+    fn drop(self) {
+        let Turnstile { board: _ } = self;
+    }
 }
 
 impl<T: Object> Model for Turnstile<T> {

@@ -12,7 +12,7 @@ use ocm_base::{Copied, NoMemory, Text, and};
 use std::alloc::Global;
 
 /// A user at a server.
-#[derive(Debug, Drop, PartialEq, Eq, PartialOrd, Ord, Hash)]
+#[derive(Debug, PartialEq, Eq, PartialOrd, Ord, Hash)]
 pub struct Address {
     /// The user's name. It may have an `@`.
     pub user: Name,
@@ -20,7 +20,21 @@ pub struct Address {
     pub host: Host,
 }
 
+impl Drop for Address {
+    fn drop(self) {
+        let Address { user: _, host: _ } = self;
+    }
+}
+
 impl Address {
+    /// The user's server.
+    pub fn into_host(self) -> Host
+        ensures { result ≡ self.host }
+    {
+        let Address { user: _, host } = self;
+        host
+    }
+
     /// Reads an address. What stands before the last `@` is the user's name, and what follows it is
     /// read as `Host::read` reads.
     pub fn read(alloc: Global, s: &str) -> Result<Address, AddressFault>

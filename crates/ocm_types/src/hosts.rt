@@ -15,9 +15,15 @@ use std::marker::Model;
 
 /// A server's host: a name of 1 to 240 lower-case ASCII letters, digits, `-` and `.`, and behind a
 /// `:` its port, unless that is 80. Contracts see the bytes of that text.
-#[derive(Debug, Drop, PartialEq, Eq, PartialOrd, Ord, Hash)]
+#[derive(Debug, PartialEq, Eq, PartialOrd, Ord, Hash)]
 pub struct Host {
     text: Text,
+}
+
+impl Drop for Host {
+    fn drop(self) {
+        let Host { text: _ } = self;
+    }
 }
 
 impl Model for Host {

@@ -9,9 +9,15 @@ use std::marker::Model;
 
 /// The owner's mark of a share, unique at its server: the `providerId` of an offer and of each notification about the
 /// share (Open Cloud Mesh API 1.1). It has 1 to 255 bytes of UTF-8 and no control character. Contracts see its bytes.
-#[derive(Debug, Drop, PartialEq, Eq, PartialOrd, Ord, Hash)]
+#[derive(Debug, PartialEq, Eq, PartialOrd, Ord, Hash)]
 pub struct ProviderId {
     text: Text,
+}
+
+impl Drop for ProviderId {
+    fn drop(self) {
+        let ProviderId { text: _ } = self;
+    }
 }
 
 impl Model for ProviderId {
@@ -67,9 +73,15 @@ impl Copied for ProviderId {
 /// A recipient's mark of its request that a share be passed on, unique at its server: the `senderId` of the notification
 /// `REQUEST_RESHARE` (Open Cloud Mesh API 1.1). It has 1 to 64 bytes of UTF-8 and no control character. Contracts see its
 /// bytes.
-#[derive(Debug, Drop, PartialEq, Eq, PartialOrd, Ord, Hash)]
+#[derive(Debug, PartialEq, Eq, PartialOrd, Ord, Hash)]
 pub struct SenderId {
     text: Text,
+}
+
+impl Drop for SenderId {
+    fn drop(self) {
+        let SenderId { text: _ } = self;
+    }
 }
 
 impl Model for SenderId {

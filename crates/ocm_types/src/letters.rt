@@ -29,7 +29,7 @@ fn copies_of(id: &ProviderId, secret: &Secret) -> Result<(ProviderId, Secret), N
 }
 
 /// An offer of a share: what the body of POST to `{endPoint}/shares` says (Open Cloud Mesh API 1.1).
-#[derive(Debug, Drop, PartialEq, Eq)]
+#[derive(Debug, PartialEq, Eq)]
 pub struct Offer {
     /// Who gets the share: `shareWith`.
     pub with: Address,
@@ -45,6 +45,20 @@ pub struct Offer {
     pub secret: Secret,
     /// What the recipient may do: `permissions`.
     pub perms: Perms,
+}
+
+impl Drop for Offer {
+    fn drop(self) {
+        let Offer {
+            with: _,
+            name: _,
+            id: _,
+            owner: _,
+            sender: _,
+            secret: _,
+            perms: _,
+        } = self;
+    }
 }
 
 impl Offer {
@@ -78,7 +92,7 @@ impl Copied for Offer {
 
 /// A notification about a share: what the body of POST to `{endPoint}/notifications` says (Open Cloud Mesh API 1.1). In
 /// each, `id` is its `providerId` and `secret` its `sharedSecret`: those of the share, as its offer gave them.
-#[derive(Debug, Drop, PartialEq, Eq)]
+#[derive(Debug, PartialEq, Eq)]
 pub enum Notice {
     /// `SHARE_ACCEPTED`: the recipient took the share. What is present of the owner, the recipient and the permissions
     /// says how the recipient understood the offer.
@@ -127,6 +141,36 @@ pub enum Notice {
         /// What the recipient may do from now on: `permissions`.
         perms: Perms,
     },
+}
+
+impl Drop for Notice {
+    fn drop(self) {
+        match self {
+            Notice::Accepted {
+                id: _,
+                secret: _,
+                owner: _,
+                with: _,
+                perms: _,
+            } => {}
+            Notice::Declined { id: _, secret: _ } => {}
+            Notice::Unshared { id: _, secret: _ } => {}
+            Notice::ReshareRequest {
+                id: _,
+                secret: _,
+                with: _,
+                sender_id: _,
+                perms: _,
+            } => {}
+            Notice::ReshareUndo { id: _, secret: _ } => {}
+            Notice::Changed {
+                id: _,
+                secret: _,
+                serial: _,
+                perms: _,
+            } => {}
+        }
+    }
 }
 
 impl Notice {
@@ -208,12 +252,21 @@ impl Copied for Notice {
 }
 
 /// What one server sends another.
-#[derive(Debug, Drop, PartialEq, Eq)]
+#[derive(Debug, PartialEq, Eq)]
 pub enum Letter {
     /// An offer, for the shares end point.
     Offer(Offer),
     /// A notification, for the notifications end point.
     Notice(Notice),
+}
+
+impl Drop for Letter {
+    fn drop(self) {
+        match self {
+            Letter::Offer(_) => {}
+            Letter::Notice(_) => {}
+        }
+    }
 }
 
 impl Letter {
@@ -241,7 +294,7 @@ impl Copied for Letter {
 }
 
 /// A letter that waits to be sent.
-#[derive(Debug, Drop, PartialEq, Eq)]
+#[derive(Debug, PartialEq, Eq)]
 pub struct Numbered {
     /// Its number among the letters of its server.
     pub number: u32,
@@ -249,6 +302,16 @@ pub struct Numbered {
     pub to: Host,
     /// What it says.
     pub letter: Letter,
+}
+
+impl Drop for Numbered {
+    fn drop(self) {
+        let Numbered {
+            number: _,
+            to: _,
+            letter: _,
+        } = self;
+    }
 }
 
 impl Numbered {

@@ -9,9 +9,15 @@ use std::marker::Model;
 
 /// A user's name at its server: the part of an address before the last `@`. It has 1 to 64 bytes of UTF-8, no control
 /// character (0 to 31, and 127) and no `/`. Contracts see its bytes.
-#[derive(Debug, Drop, PartialEq, Eq, PartialOrd, Ord, Hash)]
+#[derive(Debug, PartialEq, Eq, PartialOrd, Ord, Hash)]
 pub struct Name {
     text: Text,
+}
+
+impl Drop for Name {
+    fn drop(self) {
+        let Name { text: _ } = self;
+    }
 }
 
 impl Model for Name {
@@ -66,9 +72,15 @@ impl Copied for Name {
 
 /// What the owner calls a share: the `name` of an offer (Open Cloud Mesh API 1.1). It has 1 to 1,024 bytes of UTF-8 and
 /// no control character. Contracts see its bytes.
-#[derive(Debug, Drop, PartialEq, Eq, PartialOrd, Ord, Hash)]
+#[derive(Debug, PartialEq, Eq, PartialOrd, Ord, Hash)]
 pub struct ShareName {
     text: Text,
+}
+
+impl Drop for ShareName {
+    fn drop(self) {
+        let ShareName { text: _ } = self;
+    }
 }
 
 impl Model for ShareName {

@@ -65,7 +65,7 @@ impl Phase {
 }
 
 /// How far a recipient's request that a share be passed on has come (`REQUEST_RESHARE` of Open Cloud Mesh API 1.1).
-#[derive(Debug, Drop, PartialEq, Eq)]
+#[derive(Debug, PartialEq, Eq)]
 pub enum RequestPhase {
     /// The owner's server has not yet answered.
     Asked,
@@ -78,6 +78,17 @@ pub enum RequestPhase {
     Refused,
     /// The recipient took it back (`RESHARE_UNDO`).
     Undone,
+}
+
+impl Drop for RequestPhase {
+    fn drop(self) {
+        match self {
+            RequestPhase::Asked => {}
+            RequestPhase::Granted { child: _ } => {}
+            RequestPhase::Refused => {}
+            RequestPhase::Undone => {}
+        }
+    }
 }
 
 impl RequestPhase {

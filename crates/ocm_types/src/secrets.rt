@@ -10,9 +10,15 @@ use std::marker::Model;
 /// What the holder of a share shows to reach it: the `sharedSecret` of an offer and of each notification (Open Cloud Mesh
 /// API 1.1). It has 1 to 255 bytes of UTF-8, no control character and no `:`, so that it may stand as the user of HTTP's
 /// basic credentials. Contracts see its bytes.
-#[derive(Debug, Drop, PartialEq, Eq, PartialOrd, Ord, Hash)]
+#[derive(Debug, PartialEq, Eq, PartialOrd, Ord, Hash)]
 pub struct Secret {
     text: Text,
+}
+
+impl Drop for Secret {
+    fn drop(self) {
+        let Secret { text: _ } = self;
+    }
 }
 
 impl Model for Secret {

@@ -7,11 +7,20 @@ use std::marker::Model;
 
 /// A user that can be added without memory: the row, and once more what it is found by. Contracts see
 /// the user.
-#[derive(Drop)]
 pub struct PlannedUser {
     user: User,
     name: Name,
     key: Secret,
+}
+
+impl Drop for PlannedUser {
+    fn drop(self) {
+        let PlannedUser {
+            user: _,
+            name: _,
+            key: _,
+        } = self;
+    }
 }
 
 impl Model for PlannedUser {
@@ -45,6 +54,7 @@ impl PlannedUser {
         ensures name { result.1 ≡ self.name }
         ensures key { result.2 ≡ self.key }
     {
-        (self.user, self.name, self.key)
+        let PlannedUser { user, name, key } = self;
+        (user, name, key)
     }
 }

@@ -14,11 +14,20 @@ use std::marker::Model;
 
 /// The users of a server in order, found by their keys and their names. There are at most 4,096.
 /// Contracts see the list of the users, and how many more can be added without memory.
-#[derive(Drop)]
 pub struct UserTable {
     rows: Vec<User>,
     by_key: HashMap<Secret, u32>,
     names: HashSet<Name>,
+}
+
+impl Drop for UserTable {
+    fn drop(self) {
+        let UserTable {
+            rows: _,
+            by_key: _,
+            names: _,
+        } = self;
+    }
 }
 
 impl Model for UserTable {

@@ -3,6 +3,7 @@ use Rattle.std.proofs.Common.{◌≡◌, ◌⊎◌, inl, inr, ◌||◌, ◌==◌
 use Rattle.std.specs.Option.{option_or}
 use Rattle.std.specs.List.{list_any}
 use Rattle.std.proofs.lemmas.Slice.Eq.{bytes_eq-Decides}
+use Rattle.ocm_limits.specs.Limits.{most_servers}
 use Rattle.ocm_disk.specs.Memory.{DiskState}
 use Rattle.ocm_disk.specs.Shelf.{has_place, is_of, is_vacant, refusal, with_disk}
 use Rattle.ocm_disk.specs.declared.shelf.Place.{Place}
@@ -30,7 +31,7 @@ own_place host = (bytes_eq-Decides host host).1 refl
 
 -- the host has no place yet
 unplaced : (host : List ℕ) (places : List Place) → refusal host places ≡ None → has_place host places ≡ false
-unplaced host places none = first_none (has_place host places) (if length places == 16 then Some Full else None) none
+unplaced host places none = first_none (has_place host places) (if length places == most_servers then Some Full else None) none
   where
     first_none : (taken : Bool) (rest : Option ShelfFault) → (if taken then Some Taken else rest) ≡ None → taken ≡ false
     first_none true rest e = absurd (cc)

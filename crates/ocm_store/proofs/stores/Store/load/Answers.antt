@@ -17,13 +17,13 @@ load-requires-clause-label g c =
     subst IsLabel (sym same) (host-label c.args.host c.text.ensures.canonical)
 
 -- the journal has the host as its label
-loaded : (g : Over) (c : goal.After-drop-records-inside g) → IsLoaded g.D.Disk c.args.host (new_area c.args.limit) c.args.disk c.in-Ok.journal c.in-Ok.records
+loaded : (g : Over) (c : goal.After-drop-records g) → IsLoaded g.D.Disk c.args.host (new_area c.args.limit) c.args.disk c.in-Ok.journal c.in-Ok.records
 loaded g c =
     let same : c.as_bytes.result.now ≡ c.args.host = c.as_bytes.ensures.value ∙ c.as_str.ensures ∙ c.text.ensures.text in
     subst (λ (label : List ℕ). IsLoaded g.D.Disk label (new_area c.args.limit) c.args.disk c.in-Ok.journal c.in-Ok.records) same
     (record { reads = c.in-Ok.ensures.reads; holds = c.in-Ok.ensures.stands; made = c.in-Ok.ensures.made; same = c.in-Ok.ensures.same; stays = c.in-Ok.ensures.stays_ok; moments = c.in-Ok.ensures.moments_ok })
 
-replayed : (g : Over) (c : goal.After-drop-records-inside g) → IfOk c.replay.result (IsReplayed g.D.Disk c.args.host c.in-Ok.journal c.in-Ok.records)
+replayed : (g : Over) (c : goal.After-drop-records g) → IfOk c.replay.result (IsReplayed g.D.Disk c.args.host c.in-Ok.journal c.in-Ok.records)
 replayed g c = replayed-all g.D.Disk c.args.host c.in-Ok.journal c.in-Ok.records c.replay.result c.replay.ensures.host c.replay.ensures.journal c.replay.ensures.memory c.replay.ensures.goes
 
 pub returns-in-Ok-clause-opened : goal.returns-in-Ok-clause-opened

@@ -29,6 +29,9 @@ copy_numbers-requires-clause-room c =
     let made = ap length (rw (← c.self.view_is) at c.requires.copies) in
     rw (c.new.ensures, parts.from, c.slots.ensures.slots, c.numbers.ensures) (omega (arith, many, made, parts.room))
 
+pub copy_numbers-requires-clause-lone : goal.copy_numbers-requires-clause-lone
+copy_numbers-requires-clause-lone c = rw (c.new.ensures, c.slots.ensures.slots) c.lone_slot.ensures
+
 pub add_all-requires-clause-once : goal.add_all-requires-clause-once
 add_all-requires-clause-once c =
     let planned = c.args.planned in

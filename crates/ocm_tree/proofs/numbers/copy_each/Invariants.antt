@@ -3,7 +3,7 @@ use Rattle.ocm_entry.specs.declared.rows.Node.{Node}
 use Rattle.ocm_rules.specs.Files.{is_at_or_above}
 use Rattle.ocm_tree.specs.Tables.{slot_passes}
 use Rattle.ocm_tree.specs.Orders.{numbers_where}
-use Rattle.ocm_tree.proofs.numbers.copy_numbers.Given as goal
+use Rattle.ocm_tree.proofs.numbers.copy_each.Given as goal
 
 abbrev pub invariant-loop-index : goal.invariant-loop-index
 invariant-loop-index l = record {

@@ -1,0 +1,145 @@
+//! Connections served alone.
+ghost use Rattle.std.specs.Prelude.{List, []};
+ghost use Rattle.ocm_entry.specs.declared.entries.Entry.{Entry};
+ghost use Rattle.ocm_store.specs.Stores.{IsLegalUnder, Stands, terms_of};
+
+use crate::conns::{Manner, OPEN, conn_of};
+use crate::disks::{disk_of, host, loaded};
+use crate::gates::Gates;
+use crate::pages::ended_told;
+use crate::texts::cut;
+use ocm_base::{List, MemClock};
+use ocm_dav::Config;
+use ocm_disk::{Disk, GateDisk};
+use ocm_server::{Draw, Ended, GateConn, serve_conn};
+use ocm_store::Store;
+use ocm_turn::Turnstile;
+use ocm_types::Secret;
+use std::alloc::Global;
+use std::marker::Brand;
+use std::sync::Wait;
+
+/// What a connection comes to, `DISK; LIMIT CLOCKS PIECE FAILS ROOM; BYTES`.
+pub fn talk_told<R: Wait>(rt: &R, alloc: Global, gates: &Gates, row: &str) -> Option<String> {
+    let (disk, row) = cut(row, "; ");
+    let (words, bytes) = cut(row, "; ");
+    let (limit, words) = cut(words, " ");
+    let (clocks, words) = cut(words, " ");
+    let limit = limit.parse().ok()?;
+    let conn = conn_of(alloc, gates, OPEN, bytes, manner_of(words)?);
+    match conn.zip(clock_of(alloc, clocks)) {
+        Some((mut conn, mut clock)) => {
+            let store = disk_of(alloc, gates, disk);
+            let ended = talked(rt, alloc, store, limit, &mut conn, &mut clock);
+            drop(clock);
+            let told = calls_told(alloc, ended, conn.sink.bytes());
+            drop(conn);
+            told
+        }
+        None => None,
+    }
+}
+
+/// How many calls were made, how a connection ended, and what was written on it.
+fn calls_told(alloc: Global, ended: Option<(Ended, u64)>, written: &[u8]) -> Option<String> {
+    let (ended, calls) = ended?;
+    let told = ended_told(alloc, ended, written, "")?;
+    let line = format!(in alloc; "{calls} calls, {}", told.as_str());
+    drop(told);
+    line.ok()
+}
+
+/// What `PIECE FAILS ROOM` say of a connection. It takes 7 bytes a write.
+fn manner_of(words: &str) -> Option<Manner> {
+    let (piece, words) = cut(words, " ");
+    let (fails, room) = cut(words, " ");
+    Some(Manner {
+        gives: piece.parse().ok()?,
+        takes: 7,
+        source: fails.parse().ok()?,
+        sink: 0,
+        room: room.parse().ok()?,
+    })
+}
+
+/// A clock that gives these values, with `,` between two.
+fn clock_of(alloc: Global, words: &str) -> Option<MemClock> {
+    let mut values = List::new(alloc);
+    add_values(&mut values, words).and(Some(MemClock::new(values)))
+}
+
+fn add_values(values: &mut List<u64>, words: &str) -> Option<()> {
+    for word in words.split(',') {
+        add_value(values, word)?;
+    }
+    Some(())
+}
+
+fn add_value(values: &mut List<u64>, word: &str) -> Option<()> {
+    match word.parse() {
+        Ok(value) => values.push(value).ok(),
+        Err(_) => None,
+    }
+}
+
+fn config(alloc: Global) -> Option<Config> {
+    let admin = Secret::read(alloc, "ffffffffffffffffffffffffffffffff");
+    match host(alloc).zip(admin.ok()) {
+        Some((host, admin)) => Some(Config { host, admin }),
+        None => None,
+    }
+}
+
+/// How the connection ends at the store of a disk, and how many calls were made.
+fn talked<R: Wait>(
+    rt: &R,
+    alloc: Global,
+    disk: Option<GateDisk>,
+    limit: u64,
+    conn: &mut GateConn,
+    clock: &mut MemClock,
+) -> Option<(Ended, u64)> {
+    match disk.zip(config(alloc)) {
+        Some((disk, config)) => {
+            let ended = match loaded(alloc, disk) {
+                Some(store) => talked_at(rt, alloc, &config, store, limit, conn, clock),
+                None => None,
+            };
+            drop(config);
+            ended
+        }
+        None => None,
+    }
+}
+
+fn talked_at<R: Wait>(
+    rt: &R,
+    alloc: Global,
+    config: &Config,
+    store: Store<GateDisk>,
+    limit: u64,
+    conn: &mut GateConn,
+    clock: &mut MemClock,
+) -> Option<(Ended, u64)>
+    requires { (k : List Entry) × Stands ⟦<GateDisk as Disk>⟧ store k [] × IsLegalUnder (terms_of store) k [] }
+{
+    if limit < 1 || limit > 10_000 {
+        drop(store);
+        return None;
+    }
+    match Turnstile::make::<Brand>(alloc, store, limit) {
+        Ok((node, mut pass)) => {
+            let mut draw = Draw::new([0; 32], 0);
+            let ended = serve_conn(rt, alloc, config, &node, &mut pass, conn, &mut draw, clock);
+            let calls = pass.calls();
+            drop(draw);
+            drop(pass);
+            drop(node);
+            Some((ended, calls))
+        }
+        Err(store) => {
+            drop(store);
+            None
+        }
+    }
+}
