@@ -12,8 +12,8 @@ use Rattle.std.proofs.lemmas.Str.{is_utf8-from_IsUtf8, IsUtf8-from_ascii}
 use Rattle.std.proofs.lemmas.Str.Ascii.{IsAscii-from_all}
 use Rattle.percent_encoding.specs.Percent.{percent_encode_byte, percent_decode}
 use Rattle.percent_encoding.proofs.PercentLemmas.{IsEscapeByte, All-percent_encode_byte, round_trip}
-use Rattle.ocm_base.specs.Decimal.{is_digit_byte}
-use Rattle.ocm_base.proofs.DecimalLaws.{printed}
+use Rattle.ocm_texts.specs.Decimal.{is_digit_byte}
+use Rattle.ocm_texts.proofs.DecimalLaws.{printed}
 use Rattle.ocm_types.specs.Texts.{is_secret}
 use Rattle.ocm_path.specs.declared.escapes.TheConstants.{ESCAPED}
 use Rattle.ocm_path.specs.Escapes.{is_unreserved, escape_byte, escape}

@@ -6,7 +6,7 @@ use Rattle.std.proofs.lemmas.Bool.{and_parts}
 use Rattle.std.proofs.lemmas.Bool.Decides.{nat_tests}
 use Rattle.std.proofs.lemmas.List.Elements.{All-nil, All-cons}
 use Rattle.std.proofs.lemmas.List.Splits.{slice_split_none, slice_split_at, join_with_byte-slice_split}
-use Rattle.ocm_base.specs.Decimal.{is_digit_byte}
+use Rattle.ocm_texts.specs.Decimal.{is_digit_byte}
 use Rattle.ocm_access_log.specs.Cuts.{Lacks}
 use Rattle.ocm_access_log.specs.Lines.{is_space, number_word, method_word, secret_word, path_word, status_word, when, line_in}
 

@@ -4,7 +4,7 @@ use Rattle.std.specs.Fmt.{decimal}
 use Rattle.std.specs.List.{slice_split}
 use Rattle.std.specs.Str.{is_utf8}
 use Rattle.percent_encoding.specs.Percent.{percent_decode}
-use Rattle.ocm_base.specs.Decimal.{decimal_of, is_digit_byte}
+use Rattle.ocm_texts.specs.Decimal.{decimal_of, is_digit_byte}
 use Rattle.ocm_types.specs.Texts.{secret_of}
 use Rattle.ocm_path.specs.Escapes.{escape}
 use Rattle.ocm_path.specs.Paths.{Segments, path_escaped, path_given}

@@ -12,7 +12,6 @@ use ocm_entry::Ask;
 use std::alloc::Global;
 
 /// A line of a log: what a read was answered.
-#[derive(Debug, PartialEq, Eq)]
 pub struct LogLine {
     /// How many entries that are no tick were kept when it was answered.
     pub place: u64,

@@ -3,7 +3,7 @@ use Rattle.std.proofs.Common.{◌≡◌, ◌≢◌, ◌≤◌, ◌==◌, false, 
 use Rattle.std.proofs.lemmas.Bool.Decides.{nat_tests}
 use Rattle.std.proofs.lemmas.List.{length-drop, take_all}
 use Rattle.std.specs.Result.{result_ok}
-use Rattle.ocm_base.specs.declared.failures.NoMemory.{NoMemory}
+use Rattle.ocm_texts.specs.declared.failures.NoMemory.{NoMemory}
 use Rattle.ocm_entry.specs.declared.asks.Ask.{Ask}
 use Rattle.ocm_spelling.specs.declared.entry_faults.EntryFault.{EntryFault}
 use Rattle.ocm_spelling.specs.declared.entry_faults.EntryFault.TheVariants as faults

@@ -7,7 +7,6 @@ use ocm_spelling::{EntryFault, decode};
 use std::alloc::Global;
 
 /// What a record of a journal says.
-#[derive(Debug)]
 pub enum Stamped {
     /// In an area of form 1: an ask without a moment.
     Bare(Ask),

@@ -2,8 +2,8 @@ ghost use Rattle.std.specs.Prelude.{◌≡◌, ℕ, List, [], ◌∷◌, ◌++�
 ghost use Rattle.ocm_base.specs.Outside.{Appends};
 ghost use Rattle.ocm_base.specs.Memory.{value_at};
 
-use crate::lists::List;
 use crate::traces::Trace;
+use ocm_texts::List;
 use std::marker::Model;
 use std::time;
 

@@ -1,9 +1,8 @@
 ghost use Rattle.std.specs.Prelude.{◌≡◌, ◌≤◌, ◌<◌, ◌++◌, length, drop, IfOk, OnOk, OnErr};
 ghost use Rattle.ocm_base.specs.Outside.{Rose, Appends, AppendsPart};
 
-use crate::byte_lists::Bytes;
-use crate::failures::{Failed, NoMemory};
 use crate::outside::Sink;
+use ocm_texts::{Bytes, Failed, NoMemory};
 use std::alloc::Global;
 use std::marker::Model;
 

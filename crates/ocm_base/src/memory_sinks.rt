@@ -2,10 +2,8 @@ ghost use Rattle.std.specs.Prelude.{◌≡◌, ℕ, ◌+◌, ◌-◌, ◌<◌, �
 ghost use Rattle.ocm_base.specs.Outside.{Rose, Appends, raised};
 ghost use Rattle.ocm_base.specs.Memory.{is_listed};
 
-use crate::byte_lists::Bytes;
-use crate::failures::{Failed, NoMemory};
-use crate::lists::List;
 use crate::outside::Sink;
+use ocm_texts::{Bytes, Failed, List, NoMemory};
 use std::alloc::Global;
 use std::marker::Model;
 

@@ -2,10 +2,8 @@ ghost use Rattle.std.specs.Prelude.{◌≡◌, ℕ, ◌+◌, ◌-◌, ◌<◌, �
 ghost use Rattle.ocm_base.specs.Outside.{Rose, Takes, raised};
 ghost use Rattle.ocm_base.specs.Memory.{is_listed};
 
-use crate::byte_lists::Bytes;
-use crate::failures::Failed;
-use crate::lists::List;
 use crate::outside::Source;
+use ocm_texts::{Bytes, Failed, List};
 use std::marker::Model;
 
 /// A source over bytes in memory, which fails at the calls that are listed. It tells what it has left.

@@ -1,7 +1,7 @@
 ghost use Rattle.std.specs.Prelude.{◌≡◌, ℕ, ◌<◌, ◌≤◌, List, [], ◌++◌, length, take, Option, None, Some, true, IfOk, IfSome, OnErr};
 ghost use Rattle.ocm_base.specs.Outside.{Rose, Appends, Takes};
 
-use crate::failures::Failed;
+use ocm_texts::Failed;
 
 /// Where bytes come from.
 pub trait Source: Drop {

@@ -1,7 +1,7 @@
 ghost use Rattle.std.specs.Prelude.{◌≡◌, ◌<◌, ◌≤◌, None, IfOk, length};
 
-use crate::failures::Failed;
 use crate::outside::{Sink, Source};
+use ocm_texts::Failed;
 use std::io;
 
 /// A source over a reader of the standard library. It tells nothing of what is left. A read that a signal

@@ -1,9 +1,8 @@
 ghost use Rattle.std.specs.Prelude.{◌≡◌, ℕ, ◌+◌, ◌<◌, ◌≤◌, Some, [], ◌++◌, length, IfOk, IsOk, OnOk, IfSome, OnErr, option_map};
 ghost use Rattle.ocm_base.specs.Outside.{Rose, Appends, AppendsPart, Takes, TakesSome};
 
-use crate::byte_lists::Bytes;
-use crate::failures::{Failed, NoMemory};
 use crate::outside::{Sink, Source};
+use ocm_texts::{Bytes, Failed, NoMemory};
 use std::alloc::Global;
 
 /// Why an input was not read to its end.

@@ -1,4 +1,5 @@
 ghost use Rattle.std.specs.Prelude.{◌≤◌, length};
+ghost use Rattle.ocm_limits.specs.Limits.{most_asked_path_bytes};
 ghost use Rattle.ocm_path.specs.Paths.{path_text};
 
 use ocm_base::{NoMemory, Text};
@@ -45,7 +46,7 @@ pub fn join_told(alloc: Global, text: &str) -> Option<String> {
 }
 
 fn joined_told(alloc: Global, above: Path, below: &str) -> Option<String>
-    requires { length (path_text above) ≤ 1024 }
+    requires { length (path_text above) ≤ most_asked_path_bytes }
 {
     let joined = match Path::read(alloc, below) {
         Ok(below) => above.join(&below),

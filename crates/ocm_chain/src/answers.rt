@@ -3,7 +3,7 @@ ghost use Rattle.std.specs.Prelude.{◌≡◌};
 use ocm_types::{Need, Perms, Rights};
 
 /// What is answered to one who wants to use a share.
-#[derive(Clone, Copy, Debug, PartialEq, Eq)]
+#[derive(Clone, Copy)]
 pub enum Access {
     /// The share is live, and what is needed is permitted.
     Granted,
@@ -14,7 +14,7 @@ pub enum Access {
 }
 
 /// What the guest of a share is told once permissions have changed.
-#[derive(Clone, Copy, Debug, PartialEq, Eq)]
+#[derive(Clone, Copy)]
 pub struct Change {
     /// The number of the share.
     pub id: u32,

@@ -4,7 +4,7 @@ use ocm_rules::ShareRow;
 use ocm_types::Rights;
 
 /// What is left of a share by itself and all those above it.
-#[derive(Clone, Copy, Debug, PartialEq, Eq)]
+#[derive(Clone, Copy)]
 pub struct Reach {
     /// Whether neither the share nor one above it was closed.
     pub live: bool,
@@ -15,7 +15,7 @@ pub struct Reach {
 }
 
 /// A share with what became of it, and what is left of it.
-#[derive(Debug, Drop)]
+#[derive(Drop)]
 pub struct Row {
     /// The share, and what was done to it itself.
     pub own: ShareRow,

@@ -13,7 +13,6 @@ use std::marker::Model;
 ///
 /// Offers are numbered from 1. Contracts see the list of what was told, and how many more rows can be
 /// added without memory.
-#[derive(Debug)]
 pub struct Board {
     rows: Vec<Told>,
 }

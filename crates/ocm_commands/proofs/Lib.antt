@@ -1,3 +1,2 @@
 pub mod Drilled
 pub mod Parts
-pub mod Spellings

@@ -1,25 +1,20 @@
-use Rattle.std.proofs.Common.{◌≡◌, ◌≢◌, ◌≤◌, ◌⊎◌, List, [], ◌∷◌, ◌++◌, drop, take, length, ℕ, refl, sym, ap, subst, arith}
+use Rattle.std.proofs.Common.{◌≡◌, ◌≤◌, ◌⊎◌, List, ◌++◌, drop, take, length, ℕ, refl, sym, subst, arith}
 use Rattle.std.specs.Prelude.{◌↔◌, Option, Some, None, Result, Ok, Err, IfOk, IfSome, OnErr}
 use Rattle.std.proofs.lemmas.Option.{same_Some}
+use Rattle.std.proofs.lemmas.Result.{on_err_weaker}
 use Rattle.std.proofs.lemmas.List.{take-append-drop}
 use mathlib.Core.Logic.{inl, inr}
-use Rattle.ocm_base.specs.Outside.{Appends, AppendsPart}
+use Rattle.ocm_base.specs.Outside.{AppendsPart}
 use Rattle.ocm_disk.specs.declared.shelf.Place.{Place}
-use Rattle.ocm_audit.specs.Audits.{Audits, WritesFront}
-use Rattle.ocm_records.specs.Rows as rows
-use Rattle.ocm_records.specs.declared.faults.Field.{Field}
-use Rattle.ocm_records.specs.declared.faults.RecordFault.{RecordFault}
-use Rattle.ocm_records.specs.declared.faults.RecordFault.TheVariants as records
-use Rattle.ocm_commands.specs.Audits.{not_journal}
-use Rattle.ocm_commands.specs.Checks.{Tells}
-use Rattle.ocm_commands.specs.Commands.{Gives, IsStatus, Writes, WritesPart, end_status, status_of}
-use Rattle.ocm_commands.specs.Words.{AreOf, AreOther, input_of, most_bytes}
-use Rattle.ocm_commands.specs.declared.ends.End.{End}
-use Rattle.ocm_commands.specs.declared.ends.End.TheVariants as whole
-use Rattle.ocm_commands.specs.declared.ends.Fault.{Fault}
-use Rattle.ocm_commands.specs.declared.ends.Fault.TheVariants as faults
-use Rattle.ocm_commands.specs.declared.words.Command.{Command}
-use Rattle.ocm_commands.specs.declared.words.Command.TheVariants as commands
+use Rattle.ocm_commands.specs.Commands.{Gives, Writes, WritesPart}
+use Rattle.ocm_commands_checks.specs.Commands.{GivesPlain, IsStatus, WritesPlain, WritesPlainPart, end_status, status_of}
+use Rattle.ocm_commands_checks.specs.Words.{AreOf, AreOther, input_of, most_bytes}
+use Rattle.ocm_commands_checks.specs.declared.ends.End.{End}
+use Rattle.ocm_commands_checks.specs.declared.ends.End.TheVariants as whole
+use Rattle.ocm_commands_checks.specs.declared.ends.Fault.{Fault}
+use Rattle.ocm_commands_checks.specs.declared.ends.Fault.TheVariants as faults
+use Rattle.ocm_commands_checks.specs.declared.words.Command.{Command}
+use Rattle.ocm_commands_checks.specs.declared.words.Command.TheVariants as commands
 
 -- a front of the text of a whole run is a front of what the command writes
 pub front-part : (command : Command) (bytes : List ℕ) (old new : Option (List ℕ)) (end : End) (text : List ℕ) → length bytes ≤ most_bytes command → Gives command bytes end text None → AppendsPart old new text → WritesPart command bytes old new
@@ -58,28 +53,26 @@ pub run-part : (words : List (List ℕ)) (command c : Command) (run : Result End
 run-part words command c run n left old new read are is fault part =
     subst (λ d. IfSome (input_of d left) (λ bytes. WritesPart d bytes old new)) (same_Some command c ((read c).1 are)) (early run n _ is fault part)
 
--- what is told of the record that was read is told of the one that the bytes are
-pub told-given : (read given : Result (List ℕ) RecordFault) (end : End) (text : List ℕ) → rows.Gives (λ t. t) read given → read ≢ Err records.NoMemory → Tells read end text → Tells given end text
-told-given (Ok form) given end text is known told = subst (λ r. Tells r end text) (sym is) told
-told-given (Err records.NotJson) given end text is known told = subst (λ r. Tells r end text) (sym is) told
-told-given (Err records.NotObject) given end text is known told = subst (λ r. Tells r end text) (sym is) told
-told-given (Err (records.Missing field)) given end text is known told = subst (λ r. Tells r end text) (sym is) told
-told-given (Err (records.Kind field)) given end text is known told = subst (λ r. Tells r end text) (sym is) told
-told-given (Err (records.Value field)) given end text is known told = subst (λ r. Tells r end text) (sym is) told
-told-given (Err (records.Unsupported field)) given end text is known told = subst (λ r. Tells r end text) (sym is) told
-told-given (Err records.NoMemory) given end text is known told = absurd (known refl)
+-- what a plain command gives is what the command gives, with any shelf
+plain-gives : (command : Command) (bytes : List ℕ) (end : End) (text : List ℕ) (shelf : Option (List Place)) → GivesPlain command bytes end text → Gives command bytes end text shelf
+plain-gives commands.Replay bytes end text shelf gives = absurd gives
+plain-gives (commands.Trace host) bytes end text shelf gives = absurd gives
+plain-gives commands.Audit bytes end text shelf gives = gives
+plain-gives commands.Logcheck bytes end text shelf gives = gives
+plain-gives (commands.Check kind) bytes end text shelf gives = gives
+plain-gives (commands.Drill number events) bytes end text shelf gives = absurd gives
+plain-gives commands.Help bytes end text shelf gives = gives
+plain-gives commands.Version bytes end text shelf gives = gives
 
--- the line that names where bytes are no journal is what the command writes
-pub named-place : (bytes : List ℕ) (place : ℕ) (old mid new : Option (List ℕ)) (shelf : List Place) (result : Result End Fault) → length bytes ≤ most_bytes commands.Audit → Audits bytes (Err place) → mid ≡ old → IfOk result (λ end. (end ≡ whole.NotJournal) × Appends mid new (not_journal place)) → IfOk result (λ end. Writes commands.Audit bytes end old new shelf)
-named-place bytes place old mid new shelf (Ok end) le audits same named = (le, not_journal place, subst (λ o. Appends o new (not_journal place)) same named.1, (Err place, audits, (named.0, refl)))
-named-place bytes place old mid new shelf (Err fault) le audits same named = tt
+-- what a plain command writes is what the command writes, with any shelf
+pub plain-whole : (command : Command) (bytes : List ℕ) (old new : Option (List ℕ)) (shelf : List Place) (run : Result End Fault) → IfOk run (λ end. WritesPlain command bytes end old new) → IfOk run (λ end. Writes command bytes end old new shelf)
+plain-whole command bytes old new shelf (Ok end) writes = (writes.0, writes.1, writes.2, plain-gives command bytes end writes.1 (Some shelf) writes.3)
+plain-whole command bytes old new shelf (Err fault) writes = tt
 
--- a front of that line is a front of what the command writes
-pub named-place-part : (bytes : List ℕ) (place : ℕ) (old mid new : Option (List ℕ)) → length bytes ≤ most_bytes commands.Audit → Audits bytes (Err place) → mid ≡ old → AppendsPart mid new (not_journal place) → WritesPart commands.Audit bytes old new
-named-place-part bytes place old mid new le audits same part =
-    front-part commands.Audit bytes old new whole.NotJournal (not_journal place) le (Err place, audits, (refl, refl)) (subst (λ o. AppendsPart o new (not_journal place)) same part)
+-- so is a part of it
+plain-front : (command : Command) (bytes : List ℕ) (old new : Option (List ℕ)) → WritesPlainPart command bytes old new → WritesPart command bytes old new
+plain-front command bytes old new (inl same) = inl same
+plain-front command bytes old new (inr part) = inr (part.0, part.1, part.2, part.3, part.4, plain-gives command bytes part.1 (part.2 ++ part.3) None part.5)
 
--- a front of an audit's text is a front of what the command writes
-pub audited-part : (bytes : List ℕ) (old new : Option (List ℕ)) → length bytes ≤ most_bytes commands.Audit → WritesFront bytes old new → WritesPart commands.Audit bytes old new
-audited-part bytes old new le (inl same) = inl same
-audited-part bytes old new le (inr front) = inr (le, whole.Done, front.0, front.1, front.2, (Ok (front.0 ++ front.1), front.3, (refl, refl)))
+pub plain-part : (command : Command) (bytes : List ℕ) (old new : Option (List ℕ)) (run : Result End Fault) → OnErr run (WritesPlainPart command bytes old new) → OnErr run (WritesPart command bytes old new)
+plain-part command bytes old new run part = on_err_weaker run (plain-front command bytes old new) part

@@ -1,6 +1,5 @@
 -- What is written of a script: its transcript, what `logcheck` reads of one of its servers, or the summary of a drill.
-use Rattle.std.specs.Prelude.{◌≡◌, ℕ, ◌⊎◌, List, [], ◌∷◌, ◌++◌, false, IsTrue, Option, Some, None, codes, Result, Ok, Err}
-use Rattle.std.specs.Fmt.{decimal}
+use Rattle.std.specs.Prelude.{◌≡◌, ℕ, ◌⊎◌, List, [], false, IsTrue, Option, Some, None, Ok, Err}
 use Rattle.std.specs.List.{list_any}
 use Rattle.ocm_disk.specs.Shelf.{bytes_of, disk_of}
 use Rattle.ocm_disk.specs.declared.shelf.Place.{Place}
@@ -8,17 +7,14 @@ use Rattle.ocm_drill.specs.Script.{made_script}
 use Rattle.ocm_script.specs.Script.{script_of}
 use Rattle.ocm_script.specs.declared.events.Event.{Event}
 use Rattle.ocm_script.specs.declared.faults.ScriptFault.TheVariants as ends
-use Rattle.ocm_world.specs.Drills.{Texts, summary_of}
-use Rattle.ocm_world.specs.Servers.{World}
+use Rattle.ocm_world_lines.specs.Drills.{Texts, summary_of}
+use Rattle.ocm_world_lines.specs.Servers.{World}
 use Rattle.ocm_world.specs.Shelves.{AreShelved}
-use Rattle.ocm_world.specs.Traces.{Logged, log_input, names}
-use Rattle.ocm_world.specs.Transcript.{Transcript}
-use Rattle.ocm_commands.specs.declared.ends.End.{End}
-use Rattle.ocm_commands.specs.declared.ends.End.TheVariants as whole
-
--- the line that names a bad line of a script or a log
-abbrev pub bad_line : ℕ → List ℕ
-bad_line number = codes "bad line " ++ decimal number ++ 10 ∷ []
+use Rattle.ocm_world_lines.specs.Traces.{Logged, log_input, names}
+use Rattle.ocm_world_lines.specs.Transcript.{Transcript}
+use Rattle.ocm_commands_checks.specs.Lines.{bad_line}
+use Rattle.ocm_commands_checks.specs.declared.ends.End.{End}
+use Rattle.ocm_commands_checks.specs.declared.ends.End.TheVariants as whole
 
 -- the shelf, where it is told, has the disks of these servers
 abbrev pub IfShelved : Option (List Place) → World → Type 0

@@ -1,21 +1,15 @@
-ghost use Rattle.std.specs.Prelude.{◌≡◌, ◌≢◌, ◌⊎◌, ◌<◌, ◌≤◌, [], OnOk, OnErr, IfOk, IfSome, length, true, false};
+ghost use Rattle.std.specs.Prelude.{◌≡◌, ◌≢◌, ◌⊎◌, ◌≤◌, [], OnOk, OnErr, IfOk, IfSome, length, true, false};
 ghost use Rattle.ocm_base.specs.Outside.{Appends, AppendsPart, Rose};
 ghost use Rattle.ocm_options.specs.Plans.{texts};
-ghost use Rattle.ocm_commands.specs.Commands.{IsLong, IsStatus, IsWhole, Writes, WritesPart, end_status, usage_line};
-ghost use Rattle.ocm_commands.specs.Commands as specified;
-ghost use Rattle.ocm_commands.specs.Words.{AreOf, AreOther, BeginTrace, IsSmall, input_of, most_bytes, reads};
+ghost use Rattle.ocm_commands.specs.Commands.{Writes, WritesPart};
+ghost use Rattle.ocm_commands_checks.specs.Commands.{IsLong, IsStatus, IsWhole, end_status, usage_line};
+ghost use Rattle.ocm_commands_checks.specs.Words.{AreOf, AreOther, BeginTrace, IsSmall, input_of, most_bytes, reads};
 
-use crate::audits::run_audit;
-use crate::checks::check;
 use crate::drills::run_drill;
-use crate::ends::{End, Fault};
-use crate::help::{HELP, VERSION};
-use crate::lines::write_text;
-use crate::logchecks::run_logcheck;
 use crate::scripts::run_script;
 use crate::traces::run_trace;
-use crate::words::Command;
-use ocm_base::{Bytes, Failed, NoMemory, ReadEnd, Sink, Source, read_whole, write_all};
+use ocm_base::{Bytes, NoMemory, Sink, Source};
+use ocm_commands_checks::{Command, End, Fault, read_input, run_plain, status_of, usage};
 use ocm_disk::Shelf;
 use std::alloc::Global;
 
@@ -71,23 +65,6 @@ pub fn command<S: Source, K: Sink>(
     }
 }
 
-/// Tells the commands, and answers the status for words that are none of them.
-pub fn usage<K: Sink>(sink: &mut K) -> u8
-    ensures one { (result ≡ 1) ⊎ (result ≡ 4) }
-    ensures written { result ≡ 1 → Appends (K.taken sink.old) (K.taken sink.new) usage_line }
-    ensures part { result ≡ 4 → AppendsPart (K.taken sink.old) (K.taken sink.new) usage_line }
-    ensures fault { result ≡ 4 → Rose (K.faults sink.old) (K.faults sink.new) }
-{
-    match write_all(sink, USAGE) {
-        Ok(()) => 1,
-        Err(Failed) => 4,
-    }
-}
-
-/// The line that tells the commands.
-const USAGE: &[u8] =
-    b"usage: ocmd replay|audit|check KIND|drill NUMBER EVENTS|serve OPTIONS|dav VERB HOST SECRET PATH\n";
-
 /// Runs a command on its input.
 fn run<S: Source, K: Sink>(
     alloc: Global,
@@ -114,27 +91,6 @@ fn run<S: Source, K: Sink>(
     }
 }
 
-/// The input of a command: the source to its end, and no bytes where the command does not read.
-fn read_input<S: Source>(alloc: Global, command: &Command, source: &mut S) -> Result<Bytes, Fault>
-    ensures ended { OnOk result (reads command.now ≡ true → IfSome (S.left source.new) (λ rest. rest ≡ [])) }
-    ensures alone { reads command.now ≡ false → source.new ≡ source.old }
-    ensures input { IfOk result (λ bytes. IfSome (input_of command.now (S.left source.old)) (λ input. input ≡ bytes)) }
-    ensures within { IfOk result (λ bytes. length bytes ≤ most_bytes command.now) }
-    ensures too_long { result ≡ Err Fault.TooLong → IfSome (input_of command.now (S.left source.old)) (IsLong command.now) }
-    ensures read_fault { result ≡ Err Fault.ReadFault → Rose (S.faults source.old) (S.faults source.new) }
-    ensures no_write_fault { result ≢ Err Fault.WriteFault }
-{
-    if !command.reads() {
-        return Ok(Bytes::new(alloc));
-    }
-    match read_whole(alloc, source, command.most_bytes()) {
-        Ok(bytes) => Ok(bytes),
-        Err(ReadEnd::ReadFault) => Err(Fault::ReadFault),
-        Err(ReadEnd::TooLong) => Err(Fault::TooLong),
-        Err(ReadEnd::NoMemory) => Err(Fault::NoMemory),
-    }
-}
-
 /// Runs a command on the bytes of its input.
 fn run_on<K: Sink>(
     alloc: Global,
@@ -156,27 +112,8 @@ fn run_on<K: Sink>(
     match command {
         Command::Replay => run_script(alloc, bytes.as_slice(), sink, shelf),
         Command::Trace(host) => run_trace(alloc, host, bytes.as_slice(), sink, shelf),
-        Command::Audit => run_audit(alloc, bytes.as_slice(), sink),
-        Command::Logcheck => run_logcheck(alloc, bytes.as_slice(), sink),
-        Command::Check(kind) => check(alloc, *kind, bytes.as_slice(), sink),
         Command::Drill { number, events } => run_drill(alloc, *number, *events, sink, shelf),
-        Command::Help => write_text(HELP, sink),
-        Command::Version => write_text(VERSION, sink),
-    }
-}
-
-fn status_of(end: Result<End, Fault>) -> u8
-    ensures { result ≡ specified.status_of end }
-{
-    match end {
-        Ok(End::Done) => 0,
-        Ok(End::Script) => 2,
-        Ok(End::NotJournal) => 7,
-        Ok(End::Record) => 8,
-        Ok(End::False) => 17,
-        Err(Fault::ReadFault) => 3,
-        Err(Fault::WriteFault) => 4,
-        Err(Fault::NoMemory) => 5,
-        Err(Fault::TooLong) => 9,
+        Command::Audit | Command::Logcheck | Command::Check(_) | Command::Help | Command::Version =>
+            run_plain(alloc, command, bytes.as_slice(), sink),
     }
 }

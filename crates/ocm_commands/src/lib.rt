@@ -1,17 +1,10 @@
-//! The commands of the program `ocmd` that ask no server and are none: `replay`, `trace`, `check`, `audit`,
-//! `logcheck`, `drill`, `help` and `version`, over any source and sink.
+//! The commands of the program `ocmd` that work on standard input, or on nothing, over any source and sink: `replay`,
+//! `trace` and `drill`, which run servers of a script, and by way of `ocm_commands_checks` the plain ones.
 #![tactic(auto)]
 
-mod audits;
-mod checks;
 mod commands;
 mod drills;
-mod ends;
-mod help;
-mod lines;
-mod logchecks;
 mod scripts;
 mod traces;
-mod words;
 
-pub use commands::{command, usage};
+pub use commands::command;

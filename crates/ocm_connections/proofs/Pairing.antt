@@ -3,7 +3,7 @@ use Rattle.std.proofs.Common.{◌≡◌, ℕ, ◌≤◌, List, [], ◌++◌, len
 use Rattle.std.specs.Prelude.{IfOk, IfErr, IfSome, OnOk, OnErr, is_err}
 use Rattle.std.proofs.lemmas.List.{take-append-drop}
 use Rattle.ocm_base.specs.Outside.{Rose, Appends, AppendsPart, Takes}
-use Rattle.ocm_base.specs.declared.failures.Failed.{Failed}
+use Rattle.ocm_texts.specs.declared.failures.Failed.{Failed}
 use Rattle.ocm_http.specs.Places.{past}
 use Rattle.ocm_http.specs.Frames.{Frame, Given, Refused, Over, IsFrame}
 use Rattle.ocm_http.specs.Readers.{ReaderState, Reads, ReadsMessage}

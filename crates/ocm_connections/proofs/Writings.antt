@@ -1,7 +1,7 @@
 -- What is written.
 use Rattle.std.proofs.Common.{◌≡◌, ℕ, ◌≤◌, List, [], Bool, true, false, Option, Some, None, Result, Ok, Err, refl, sym, subst, arith, inl, inr}
 use Rattle.std.specs.Prelude.{IsTrue}
-use Rattle.ocm_base.specs.declared.failures.Failed.{Failed}
+use Rattle.ocm_texts.specs.declared.failures.Failed.{Failed}
 use Rattle.ocm_http.specs.Written.{fixed}
 use Rattle.ocm_http.specs.declared.messages.FrameFault.{FrameFault}
 use Rattle.ocm_http.specs.declared.writing.Fixed.TheVariants as fixed_replies

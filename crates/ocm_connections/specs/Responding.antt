@@ -1,6 +1,6 @@
 -- One message answered by an object, without a turnstile.
 use Rattle.std.specs.Prelude.{◌≡◌, ◌⊎◌, List, ◌∷◌, Result, Ok, Err}
-use Rattle.ocm_base.specs.declared.failures.NoMemory.{NoMemory}
+use Rattle.ocm_texts.specs.declared.failures.NoMemory.{NoMemory}
 use Rattle.ocm_entry.specs.declared.entries.Entry.{Entry}
 use Rattle.ocm_entry.specs.declared.replies.Reply.{Reply}
 use Rattle.ocm_pages.specs.declared.shapes.Page.{Page}

@@ -1,7 +1,7 @@
 -- What contracts see of a connection, and what one call of it does.
 use Rattle.std.specs.Prelude.{◌≡◌, ℕ, ◌≤◌, Bool, true, false, List, [], ◌++◌, length, Option, Some, None, Result, Ok, Err, IfSome, IsTrue}
 use Rattle.ocm_base.specs.Outside.{Rose, Appends, AppendsPart, Takes}
-use Rattle.ocm_base.specs.declared.failures.Failed.{Failed}
+use Rattle.ocm_texts.specs.declared.failures.Failed.{Failed}
 use Rattle.ocm_limits.specs.Limits.{most_body_bytes}
 use Rattle.ocm_http.specs.Places.{past}
 use Rattle.ocm_http.specs.Frames.{Frame, Given, Refused, Over, IsFrame}

@@ -20,7 +20,7 @@ pub enum Ended {
 }
 
 /// Why a message has no page.
-#[derive(Clone, Copy, Debug, PartialEq, Eq)]
+#[derive(Clone, Copy)]
 pub enum Missed {
     /// The turnstile's limit is reached.
     Spent,

@@ -11,7 +11,7 @@ use std::sync::Arc;
 const MAX_LOOKS: u64 = 100_000_000;
 
 /// What sets the gate of a connection.
-#[derive(Clone, Copy, Debug, PartialEq, Eq)]
+#[derive(Clone, Copy)]
 pub enum GateEvent {
     /// Its first byte was given.
     FirstGiven,

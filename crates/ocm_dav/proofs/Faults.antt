@@ -2,7 +2,7 @@
 use Rattle.std.proofs.Common.{◌≡◌, ℕ, List, Bool, true, false, Result, Ok, Err, refl, sym, ap, ◌∙◌, codes}
 use Rattle.std.specs.Prelude.{IfOk, IsErr}
 use Rattle.std.proofs.lemmas.Bool.{cond-false, false≢true}
-use Rattle.ocm_base.specs.declared.failures.NoMemory.{NoMemory}
+use Rattle.ocm_texts.specs.declared.failures.NoMemory.{NoMemory}
 use Rattle.ocm_heads.specs.declared.fields.Field.{Field}
 use Rattle.ocm_records.specs.declared.faults.RecordFault.{RecordFault}
 use Rattle.ocm_records.specs.declared.faults.RecordFault.TheVariants as faults

@@ -1,7 +1,7 @@
 -- All that is wanted is sound: what is asked is proper, and a range has a written form.
 use Rattle.std.proofs.Common.{◌≡◌, ℕ, List, [], ◌∷◌, Bool, true, false, Option, Some, None, Result, Ok, Err, refl, sym, subst}
 use Rattle.std.specs.Prelude.{◌&&◌, if◌then◌else◌, bytes_eq, codes, option_and_then, IsTrue, IfOk, IfSome}
-use Rattle.ocm_base.specs.declared.failures.NoMemory.{NoMemory}
+use Rattle.ocm_texts.specs.declared.failures.NoMemory.{NoMemory}
 use Rattle.ocm_path.specs.Paths.{Segments, path_of}
 use Rattle.ocm_path.specs.declared.faults.PathFault.{PathFault}
 use Rattle.ocm_types.specs.declared.letters.Offer.{Offer}

@@ -1,7 +1,6 @@
 use ocm_types::{Host, Secret};
 
 /// What a server knows of itself for reading requests.
-#[derive(Debug, PartialEq, Eq)]
 pub struct Config {
     /// The host that it answers for.
     pub host: Host,

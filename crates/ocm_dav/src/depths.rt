@@ -6,7 +6,7 @@ ghost use Rattle.ocm_dav.specs.Depths as depths;
 use crate::fields::{are_bytes, is_word};
 
 /// How far below its target a request reaches.
-#[derive(Clone, Copy, Debug, PartialEq, Eq)]
+#[derive(Clone, Copy)]
 pub(crate) enum Depth {
     /// To the target alone.
     Zero,

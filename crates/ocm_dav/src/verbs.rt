@@ -2,7 +2,7 @@ ghost use Rattle.std.specs.Prelude.{◌≡◌};
 ghost use Rattle.ocm_dav.specs.Verbs as verbs;
 
 /// What a request does with files (RFC 9110 section 9.3, RFC 4918 section 9).
-#[derive(Clone, Copy, Debug, PartialEq, Eq)]
+#[derive(Clone, Copy)]
 pub(crate) enum Verb {
     Get,
     Head,

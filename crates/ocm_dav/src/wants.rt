@@ -2,7 +2,7 @@ use ocm_entry::Ask;
 use ocm_pages::{Page, Shape};
 
 /// What a request wants.
-#[derive(Debug, Drop)]
+#[derive(Drop)]
 pub enum Wanted {
     /// That this is asked, and that the page of its reply has this shape.
     Ask(Ask, Shape),

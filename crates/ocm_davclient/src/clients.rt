@@ -14,7 +14,6 @@ use std::alloc::Global;
 use std::marker::Model;
 
 /// A client of one server's files, which shows one secret. Contracts see where the server gives files, and the secret.
-#[derive(Debug)]
 pub struct Client {
     site: Site,
     secret: Secret,

@@ -5,6 +5,7 @@ use Rattle.std.specs.Str.{is_utf8}
 use Rattle.url.specs.Parser.{Parsed, parse_url}
 use Rattle.url.specs.Parts.{Parts, nonempty_host}
 use Rattle.url.specs.Host.{host_text}
+use Rattle.ocm_limits.specs.Limits.{most_asked_path_bytes}
 use Rattle.ocm_types.specs.declared.address_faults.AddressFault.{AddressFault}
 use Rattle.ocm_types.specs.Hosts.{after_front, cut_at_first, host_of}
 use Rattle.ocm_path.specs.declared.faults.PathFault.{PathFault}
@@ -89,7 +90,7 @@ destination_of ours value = if is_utf8 value then text_destination ours value el
 -- what was answered is what a reading gives, with no path of more than 1,024 bytes; want of memory may come at
 -- any value
 abbrev pub Gives : Result Segments DestinationFault → Result Segments DestinationFault → Type 0
-Gives (Ok path) read = (read ≡ Ok path) × (length (path_text path) ≤ 1024)
+Gives (Ok path) read = (read ≡ Ok path) × (length (path_text path) ≤ most_asked_path_bytes)
 Gives (Err OtherServer) read = read ≡ Err OtherServer
 Gives (Err (BadPath fault)) read = (fault ≢ path_faults.NoMemory) × (read ≡ Err (BadPath fault))
 Gives (Err NoMemory) read = Unit {0}

@@ -2,6 +2,7 @@
 
 ghost use Rattle.std.specs.Prelude.{◌≡◌, ◌≢◌, ◌≤◌, length, None, Ok, Err, IfOk, IfErr, option_copied};
 ghost use Rattle.url.specs.Parser.{parse_url};
+ghost use Rattle.ocm_limits.specs.Limits.{most_asked_path_bytes};
 ghost use Rattle.ocm_path.specs.Paths.{path_text};
 ghost use Rattle.ocm_davmore.specs.Destinations as destinations;
 ghost use Rattle.ocm_davmore.specs.Destinations.{Gives, destination_of};
@@ -25,7 +26,7 @@ pub fn read_destination(alloc: Global, value: &[u8], host: &Host) -> Result<Path
         → destination_of host.now value.now ≡ Err fault) }
     ensures memory_apart { IfErr result (λ fault.
         fault ≢ DestinationFault.BadPath PathFault.NoMemory) }
-    ensures within { IfOk result (λ path. length (path_text path) ≤ 1024) }
+    ensures within { IfOk result (λ path. length (path_text path) ≤ most_asked_path_bytes) }
 {
     match str::from_utf8(value) {
         Ok(text) => read_text(alloc, text, host),

@@ -5,6 +5,7 @@ ghost use Rattle.std.specs.Prelude.{◌≡◌, ◌≤◌, ◌<◌, ◌↔◌, �
 ghost use Rattle.std.specs.Str.{is_utf8};
 ghost use Rattle.url.specs.Ipv4.{ends_in_a_number};
 ghost use Rattle.url.specs.Parts.{Parts, IsValid, serialize};
+ghost use Rattle.ocm_limits.specs.Limits.{most_asked_path_bytes};
 ghost use Rattle.ocm_types.specs.Hosts.{colon, cut_at_first, is_host};
 ghost use Rattle.ocm_path.specs.Paths.{Segments, is_path, path_text, path_escaped};
 ghost use Rattle.ocm_davmore.specs.declared.faults.DestinationFault.TheVariants.{OtherServer};
@@ -33,10 +34,10 @@ pub fn places_lie_inside()
 /// behind it. What begins with `//` names another server.
 pub fn links_read_back()
     ensures link { (ours : List ℕ) (path : Segments) → IsTrue (is_path path)
-        → length (path_text path) ≤ 1024
+        → length (path_text path) ≤ most_asked_path_bytes
         → destination_of ours (codes "/dav" ++ path_escaped path) ≡ Ok path }
     ensures query { (ours : List ℕ) (path : Segments) (query : List ℕ) → IsTrue (is_path path)
-        → length (path_text path) ≤ 1024 → IsTrue (is_utf8 query)
+        → length (path_text path) ≤ most_asked_path_bytes → IsTrue (is_utf8 query)
         → destination_of ours (codes "/dav" ++ path_escaped path ++ (codes "?" ++ query))
         ≡ Ok path }
     ensures two_slashes { (ours rest : List ℕ)
@@ -50,13 +51,13 @@ pub fn links_read_back()
 pub fn addresses_read_back()
     ensures ours { (ours : List ℕ) (url : Parts) (path : Segments) → IsValid url
         → IsTrue (is_ours ours url) → url.path ≡ codes "/dav" ++ path_escaped path
-        → IsTrue (is_path path) → length (path_text path) ≤ 1024
+        → IsTrue (is_path path) → length (path_text path) ≤ most_asked_path_bytes
         → destination_of ours (serialize url) ≡ Ok path }
     ensures other { (ours : List ℕ) (url : Parts) → IsValid url → IsTrue (is_web url.scheme)
         → is_ours ours url ≡ false → destination_of ours (serialize url) ≡ Err OtherServer }
     ensures plain { (ours : List ℕ) (path : Segments) → IsTrue (is_host ours)
         → ends_in_a_number (cut_at_first colon ours).0 ≡ false → IsTrue (is_path path)
-        → length (path_text path) ≤ 1024
+        → length (path_text path) ≤ most_asked_path_bytes
         → destination_of ours (codes "http://" ++ (ours ++ (codes "/dav" ++ path_escaped path)))
         ≡ Ok path }
 {}

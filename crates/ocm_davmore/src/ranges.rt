@@ -9,7 +9,7 @@ ghost use Rattle.ocm_davmore.specs.Ranges.{Selects, IsWritten};
 use crate::numbers::number;
 
 /// Which bytes of a file a range names. Places are counted from 0.
-#[derive(Clone, Copy, Debug, PartialEq, Eq)]
+#[derive(Clone, Copy, Debug)]
 pub enum Span {
     /// From the first place to the last, both with them.
     First(u64, u64),

@@ -3,7 +3,7 @@ use Rattle.std.specs.Prelude.{◌≡◌, ℕ, ◌+◌, ◌-◌, ◌*◌, ◌<◌
 use Rattle.std.specs.Fmt.{decimal}
 use Rattle.std.specs.List.{count_by, flat_map}
 use Rattle.std.specs.Option.{option_map_or}
-use Rattle.ocm_base.specs.Decimal.{is_digit_byte}
+use Rattle.ocm_texts.specs.Decimal.{is_digit_byte}
 
 -- what stands before a place, all where there is none
 abbrev pub front_to : Option ℕ → List ℕ → List ℕ

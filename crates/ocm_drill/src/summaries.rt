@@ -11,7 +11,6 @@ use std::marker::Model;
 /// The summary of a run, line by line: `events` and how many events there were; then for each status that came, ascending,
 /// `status`, the status and how often it came; then for each server `kept`, its host and how many entries it keeps.
 /// Contracts see its bytes.
-#[derive(Debug)]
 pub struct Summary {
     text: Bytes,
 }

@@ -9,7 +9,6 @@ use std::marker::Model;
 
 /// How often each status came first in what an event printed. Contracts see the counts, each at the place of its
 /// status.
-#[derive(Debug)]
 pub struct Tally {
     counts: Vec<u32>,
 }

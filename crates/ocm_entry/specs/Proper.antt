@@ -1,4 +1,5 @@
 use Rattle.std.specs.Prelude.{ℕ, List, [], ◌∷◌, length, nat_le, Bool, true, false, ◌&&◌}
+use Rattle.ocm_limits.specs.Limits.{most_asked_path_bytes}
 use Rattle.ocm_path.specs.Paths.{Segments, path_text}
 use Rattle.ocm_entry.specs.declared.asks.Ask.{Ask}
 use Rattle.ocm_entry.specs.declared.asks.Ask.TheVariants.{Local, Dav, Carry}
@@ -8,7 +9,7 @@ use Rattle.ocm_entry.specs.declared.asks.Method.TheVariants.{Put, Mkcol}
 
 -- whether a path's text has at most 1,024 bytes
 abbrev pub is_short : Segments → Bool
-is_short path = nat_le (length (path_text path)) 1024
+is_short path = nat_le (length (path_text path)) most_asked_path_bytes
 
 -- whether a method takes a body
 abbrev pub takes_body : Method → Bool

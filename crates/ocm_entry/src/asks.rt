@@ -1,11 +1,10 @@
 ghost use Rattle.std.specs.Prelude.{◌≡◌, IfOk};
 
-use ocm_base::{Bytes, NoMemory, and};
 use ocm_path::Path;
+use ocm_texts::{Bytes, NoMemory, and};
 use ocm_types::{Address, Fresh, Name, Notice, Offer, Perms, ProviderId, Secret};
 
 /// One step that a server is asked to take.
-#[derive(Debug, PartialEq, Eq)]
 pub enum Ask {
     /// A new user. The key of the account is made of the drawn bytes.
     AddUser {
@@ -92,7 +91,7 @@ impl Drop for Ask {
 }
 
 /// What a user commands.
-#[derive(Debug, PartialEq, Eq)]
+#[derive(Debug)]
 pub enum Cmd {
     /// A share of what stands at the path, for a user of another server. Its secret is made of the
     /// drawn bytes.

@@ -2,10 +2,9 @@ ghost use Rattle.std.specs.Prelude.{◌≡◌, IfOk};
 
 use crate::asks::Ask;
 use crate::replies::Reply;
-use ocm_base::{NoMemory, and};
+use ocm_texts::{NoMemory, and};
 
 /// An ask with the reply that was given: one entry of a server's history.
-#[derive(Debug, PartialEq, Eq)]
 pub struct Entry {
     pub ask: Ask,
     pub reply: Reply,

@@ -1,11 +1,10 @@
 ghost use Rattle.std.specs.Prelude.{◌≡◌, IfOk};
 
-use ocm_base::{Copied, NoMemory, and};
 use ocm_path::Path;
+use ocm_texts::{Copied, NoMemory, and};
 use ocm_types::{Address, Offer, Perms, Phase, RequestPhase};
 
 /// What stands at a path, as PROPFIND tells it (RFC 4918 section 9.1).
-#[derive(Debug, PartialEq, Eq)]
 pub struct DavItem {
     /// Below the holder's root.
     pub path: Path,
@@ -20,7 +19,6 @@ impl Drop for DavItem {
 }
 
 /// A line of what a user lists.
-#[derive(Debug, PartialEq, Eq)]
 pub enum Line {
     /// A share of this user's files.
     Share {

@@ -2,11 +2,10 @@ ghost use Rattle.std.specs.Prelude.{◌≡◌, IfOk};
 
 use crate::listings::{DavItem, Line};
 use crate::refusals::Why;
-use ocm_base::{Bytes, List, NoMemory};
+use ocm_texts::{Bytes, List, NoMemory};
 use ocm_types::{Name, Numbered, Secret};
 
 /// What a server answers.
-#[derive(Debug, PartialEq, Eq)]
 pub enum Reply {
     /// The key of a new account.
     Key { key: Secret },

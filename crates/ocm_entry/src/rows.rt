@@ -1,11 +1,11 @@
 ghost use Rattle.std.specs.Prelude.{◌≡◌, IfOk};
 
-use ocm_base::{Bytes, NoMemory, and};
 use ocm_path::Path;
+use ocm_texts::{Bytes, NoMemory, and};
 use ocm_types::{Address, Name, Perms, RequestPhase, Rights, Secret, SenderId};
 
 /// A user of the server, with the key of the account. Users are numbered from 1.
-#[derive(Debug, Drop, PartialEq, Eq)]
+#[derive(Drop)]
 pub struct User {
     pub name: Name,
     pub key: Secret,
@@ -13,7 +13,6 @@ pub struct User {
 
 /// A share: what a guest may do with the files of a user at and below a path. Shares are numbered
 /// from 1, and a further share has a smaller number as its parent.
-#[derive(Debug, PartialEq, Eq)]
 pub struct Share {
     /// The number of the user whose files they are.
     pub owner: u32,
@@ -52,7 +51,6 @@ impl Drop for Share {
 }
 
 /// A user's request to share a received share further. Requests are numbered from 1.
-#[derive(Debug, PartialEq, Eq)]
 pub struct Request {
     /// The number of the received share.
     pub received: u32,
@@ -73,7 +71,7 @@ impl Drop for Request {
 }
 
 /// A path of a user: the number of the user, and the path below the user's root.
-#[derive(Debug, PartialEq, Eq, Hash)]
+#[derive(PartialEq, Eq, Hash)]
 pub struct Place {
     pub user: u32,
     pub path: Path,
@@ -86,7 +84,7 @@ impl Drop for Place {
 }
 
 /// What stands at a place.
-#[derive(Debug, Drop, PartialEq, Eq)]
+#[derive(Drop)]
 pub enum Standing {
     /// A collection (RFC 4918 section 5.2).
     Collection,
@@ -95,14 +93,13 @@ pub enum Standing {
 }
 
 /// A place with what stands at it.
-#[derive(Debug, Drop, PartialEq, Eq)]
+#[derive(Drop)]
 pub struct Node {
     pub place: Place,
     pub standing: Standing,
 }
 
 /// What the holder of a secret may do, at and below a place.
-#[derive(Debug, PartialEq, Eq)]
 pub struct Grant {
     pub root: Place,
     pub rights: Rights,

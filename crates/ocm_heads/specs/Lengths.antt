@@ -2,7 +2,7 @@
 use Rattle.std.specs.Prelude.{ℕ, Bool, not, ◌&&◌, ◌||◌, ◌==◌, nat_lt, nat_le, List, [], ◌∷◌, length, map, filter, if◌then◌else◌, codes, Option, Some, None, Result, Ok, Err}
 use Rattle.std.specs.List.{list_all}
 use Rattle.std.specs.Char.{to_ascii_lowercase, is_ascii_digit}
-use Rattle.ocm_base.specs.Decimal.{number_after}
+use Rattle.ocm_texts.specs.Decimal.{number_after}
 use Rattle.ocm_heads.specs.Heads.{is_same}
 use Rattle.ocm_heads.specs.declared.fields.Field.{Field}
 use Rattle.ocm_heads.specs.declared.lengths.Length.{Length}

@@ -4,7 +4,7 @@ ghost use Rattle.ocm_heads.specs.ChunkLines.{SaysLine};
 use httparse::{Status, parse_chunk_size};
 
 /// What the front of some bytes is as a chunk line (RFC 9112 section 7.1).
-#[derive(Clone, Copy, Debug, PartialEq, Eq)]
+#[derive(Clone, Copy)]
 pub enum ChunkLine {
     /// A line of so many bytes, its CR LF among them, that gives the chunk's size in bytes.
     Line(usize, u64),

@@ -4,7 +4,7 @@ ghost use Rattle.ocm_heads.specs.Endings as endings;
 use ocm_limits::{MOST_HEAD_BYTES, MOST_HEAD_LINES};
 
 /// Where a look for an empty line stands.
-#[derive(Clone, Copy, Debug, PartialEq, Eq)]
+#[derive(Clone, Copy)]
 pub enum Stand {
     /// Before the head: there was nothing but CR and LF.
     Before,
@@ -17,7 +17,7 @@ pub enum Stand {
 }
 
 /// What a look finds in a piece.
-#[derive(Clone, Copy, Debug, PartialEq, Eq)]
+#[derive(Clone, Copy)]
 pub enum Found {
     /// The empty line ends after so many bytes of the piece.
     Whole(usize),
@@ -29,7 +29,7 @@ pub enum Found {
 
 /// A look for the first empty line, that is LF, an optional CR, LF (RFC 9112 section 2.2), in bytes that come in
 /// pieces.
-#[derive(Clone, Copy, Debug, PartialEq, Eq)]
+#[derive(Clone, Copy)]
 pub struct Look {
     /// Where it stands.
     pub stand: Stand,

@@ -3,11 +3,11 @@ ghost use Rattle.httparse.specs.Borrowed.{header_parts};
 ghost use Rattle.ocm_heads.specs.Heads.{kept_field};
 
 use httparse::Header;
-use ocm_base::{Bytes, List, NoMemory, Text};
+use ocm_texts::{Bytes, List, NoMemory, Text};
 use std::alloc::Global;
 
 /// A field of a head (RFC 9110 section 5). The name is in lower case, and the value has no blanks around it.
-#[derive(Debug, Drop, PartialEq, Eq)]
+#[derive(Drop)]
 pub struct Field {
     pub name: Text,
     pub value: Bytes,
@@ -25,7 +25,7 @@ impl Field {
 }
 
 /// What stands before a message's body (RFC 9112 section 2.1).
-#[derive(Debug, Drop, PartialEq, Eq)]
+#[derive(Drop)]
 pub enum Head {
     /// What a client sends. `closing` says that the connection ends with the reply: the request is of HTTP/1.0, or
     /// a `connection` field has the token `close` (RFC 9112 section 9.6).

@@ -1,14 +1,14 @@
 ghost use Rattle.std.specs.Prelude.{◌≡◌, ◌≤◌, length, option_map, true};
 ghost use Rattle.std.specs.Char.{is_ascii_digit};
 ghost use Rattle.std.specs.List.{list_all};
-ghost use Rattle.ocm_base.specs.Decimal.{number_after};
+ghost use Rattle.ocm_texts.specs.Decimal.{number_after};
 ghost use Rattle.ocm_heads.specs.Lengths as lengths;
 
 use crate::closings::is_word;
 use crate::fields::Field;
 
 /// How a body's end is known (RFC 9112 section 6.3).
-#[derive(Clone, Copy, Debug, PartialEq, Eq)]
+#[derive(Clone, Copy)]
 pub enum Length {
     /// It has so many bytes.
     Sized(u64),

@@ -5,8 +5,8 @@ ghost use Rattle.ocm_heads.specs.Endings as endings;
 
 use crate::fields::{Head, all_kept};
 use httparse::{EMPTY_HEADER, Response, Status};
-use ocm_base::NoMemory;
 use ocm_limits::MOST_HEAD_LINES;
+use ocm_texts::NoMemory;
 use std::alloc::Global;
 
 fn is_final_status(status: u16) -> bool

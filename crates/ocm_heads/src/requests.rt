@@ -6,8 +6,8 @@ ghost use Rattle.ocm_heads.specs.Endings as endings;
 use crate::closings::is_closing;
 use crate::fields::{Head, all_kept};
 use httparse::{EMPTY_HEADER, Request, Status};
-use ocm_base::{NoMemory, Text};
 use ocm_limits::MOST_HEAD_LINES;
+use ocm_texts::{NoMemory, Text};
 use std::alloc::Global;
 
 /// The head of a request, of at most 66 lines, that `httparse` in its default form reads in this text to exactly

@@ -31,7 +31,7 @@ use Rattle.ocm_history.specs.Replays.{GoesOn, IsMemoryOf, with_clock}
 abbrev list_if : Bool → List Entry → Option (List Entry)
 list_if b k = if b then Some k else None
 
-pub takes-ask : (old new : History) (ask : Ask) (taken : Bool) → home_of new ≡ home_of old
+takes-ask : (old new : History) (ask : Ask) (taken : Bool) → home_of new ≡ home_of old
     → ((g : List Entry) → IsOf old g → taken ≡ would_change (home_of old) g ask)
     → (taken ≡ true → (g : List Entry) → IsOf old g → IsOf new (heard (home_of old) g ask ∷ g))
     → GoesOn old new (with_ask (home_of old) ask) taken
@@ -51,6 +51,18 @@ takes-ask old new ask taken home tells goes = record {
       all_kept = ap (λ h. kept h (heard host k ask ∷ k)) home ∙ kept-changed host k ask (sym (tells k m.memory) ∙ is) ∙ ap (λ l. heard host k ask ∷ l) m.all_kept;
       memory = goes is k m.memory;
     }
+
+pub if-ok : {E : Type 0} (r : Result Bool E) (P Q : Bool → Type 0) → ((b : Bool) → P b → Q b) → IfOk r P → IfOk r Q
+if-ok (Ok b) P Q step holds = step b holds
+if-ok (Err e) P Q step holds = tt
+
+-- the same of what taking an ask answers
+pub takes-asked : {E : Type 0} (old new : History) (ask : Ask) (r : Result Bool E) → home_of new ≡ home_of old
+    → IfOk r (λ taken. (g : List Entry) → IsOf old g → taken ≡ would_change (home_of old) g ask)
+    → ((g : List Entry) → IsOf old g → r ≡ Ok true → IsOf new (heard (home_of old) g ask ∷ g))
+    → IfOk r (GoesOn old new (with_ask (home_of old) ask))
+takes-asked old new ask (Ok taken) home tells goes = takes-ask old new ask taken home tells (λ is g memory. goes g memory (ap (λ b. Ok b) is))
+takes-asked old new ask (Err e) home tells goes = tt
 
 -- a step that comes to the same
 pub goes-same : (old new : History) (step other : List Entry → Option (List Entry)) (taken : Bool) → GoesOn old new step taken → ((k : List Entry) → IsMemoryOf old k → other k ≡ step k) → GoesOn old new other taken
@@ -189,9 +201,3 @@ opened-all host form n items records history whole same upto =
 -- a step of another spelling of the host
 pub goes-home : (old new : History) (host other : List ℕ) (form : ℕ) (bytes : List ℕ) (taken : Bool) → other ≡ host → GoesOn old new (λ k. goes_on other form k bytes) taken → GoesOn old new (λ k. goes_on host form k bytes) taken
 goes-home old new host other form bytes taken same goes = subst (λ (h : List ℕ). GoesOn old new (λ k. goes_on h form k bytes) taken) same goes
-
--- ---- answers
-
-pub if-ok : {E : Type 0} (r : Result Bool E) (P Q : Bool → Type 0) → ((b : Bool) → P b → Q b) → IfOk r P → IfOk r Q
-if-ok (Ok b) P Q step holds = step b holds
-if-ok (Err e) P Q step holds = tt

@@ -1,15 +1,12 @@
 -- How the memory of a server goes on by the records of its journal.
-use Rattle.std.specs.Prelude.{◌≡◌, ℕ, List, Bool, true, false, Option, Some, None, IsTrue, nat_le, if◌then◌else◌}
-use Rattle.ocm_audit.specs.declared.stamps.Stamped.{Stamped}
-use Rattle.ocm_audit.specs.declared.stamps.Stamped.TheVariants as stamps
+use Rattle.std.specs.Prelude.{◌≡◌, ℕ, List, Bool, true, false, Option, Some, None, nat_le, if◌then◌else◌}
 use Rattle.ocm_entry.specs.declared.entries.Entry.{Entry}
-use Rattle.ocm_entry.specs.Proper.{is_proper}
 use Rattle.ocm_rules.specs.History.{kept}
 use Rattle.ocm_rules.specs.Shares.{moment}
 use Rattle.ocm_law_sessions.specs.Readings.{with_moment}
 use Rattle.ocm_history.specs.declared.histories.History.{History}
-use Rattle.ocm_history.specs.declared.faults.ReplayFault.{ReplayFault}
-use Rattle.ocm_history.specs.declared.faults.ReplayFault.TheVariants.{Refused, NoMemory}
+use Rattle.ocm_history_kept.specs.declared.faults.ReplayFault.{ReplayFault}
+use Rattle.ocm_history_kept.specs.declared.faults.ReplayFault.TheVariants.{Refused, NoMemory}
 use Rattle.ocm_history.specs.Histories.{IsOf, home_of}
 
 -- the memory of a server stands for this list, all of which is kept
@@ -25,12 +22,6 @@ pub record GoesOn (old new : History) (step : List Entry → Option (List Entry)
 -- the kept entries with a tick of this clock where it is above their moment, and none where it is below
 abbrev pub with_clock : List ℕ → ℕ → List Entry → Option (List Entry)
 with_clock host clock k = if nat_le (moment k) clock then Some (with_moment host clock k) else None
-
--- the ask of what a record says is proper, where it says one
-abbrev pub HasProperAsk : Stamped → Type 0
-HasProperAsk (stamps.Bare ask) = IsTrue (is_proper ask)
-HasProperAsk (stamps.Moment clock) = Unit {0}
-HasProperAsk (stamps.Timed clock ask) = IsTrue (is_proper ask)
 
 -- why a memory does not go on by records: the first that is refused, or want of memory
 abbrev pub IsReplayFault : Option ℕ → ReplayFault → Type 0

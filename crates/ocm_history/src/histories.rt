@@ -1,30 +1,25 @@
 //! The memory of a server: the lists of its history, and what is kept of each entry.
 
-ghost use Rattle.std.specs.Prelude.{◌≡◌, ◌≢◌, ◌<◌, ◌≤◌, ◌+◌, ◌^◌, ◌∷◌, ◌++◌, false, [], ℕ, List, length, min, if◌then◌else◌, true, option_copied, IsTrue, IfOk, Err, OnOk};
+ghost use Rattle.std.specs.Prelude.{◌≡◌, ◌≢◌, ◌<◌, ◌≤◌, ◌+◌, ◌^◌, ◌∷◌, [], ℕ, List, length, min, if◌then◌else◌, true, IsTrue, IfOk, Err, OnOk};
 ghost use Rattle.ocm_entry.specs.declared.asks.Ask.{Ask};
 ghost use Rattle.ocm_entry.specs.declared.entries.Entry.{Entry};
 ghost use Rattle.ocm_entry.specs.Proper.{is_proper};
-ghost use Rattle.ocm_spelling.specs.Spells.{Fits, has_spelling};
-ghost use Rattle.ocm_core.specs.Standing.{IsAfter, IsPlanned};
+ghost use Rattle.ocm_core.specs.Standing.{IsPlanned};
 ghost use Rattle.ocm_image.specs.Layout.{AreRecords};
-ghost use Rattle.ocm_history.specs.declared.drafts.Draft.{Draft};
+ghost use Rattle.ocm_history_kept.specs.declared.drafts.Draft.{Draft};
 ghost use Rattle.ocm_plan.specs.Plans.{Plans};
-ghost use Rattle.ocm_rules.specs.History.{kept};
 ghost use Rattle.ocm_rules.specs.Lean.{lean};
-ghost use Rattle.ocm_rules.specs.Shares.{clock_of, moment};
 ghost use Rattle.ocm_law_sessions.specs.Sessions.{heard, would_change};
 ghost use Rattle.ocm_law_sessions.specs.Written.{asks_size, records_of};
 ghost use Rattle.ocm_tables.specs.Changes.{is_kept};
-ghost use Rattle.ocm_history.specs.Changes.{IsChange, IsDraft, told};
+ghost use Rattle.ocm_history.specs.Changes.{IsChange, told};
 ghost use Rattle.ocm_history.specs.Histories.{HasPlace, IsOf, SameMemory, home_of};
-ghost use Rattle.ocm_history.specs.Kept.{IsBound, IsTooLong, bodies_with, is_tick_record, lean_text};
+ghost use Rattle.ocm_history_kept.specs.Kept.{IsBound, is_tick_record};
 
-use crate::drafts::Draft;
-use crate::faults::RecordFault;
-use crate::kept::{KeptRecord, KeptRecords};
 use ocm_base::{Bytes, List, NoMemory};
 use ocm_core::{Core, Planned};
 use ocm_entry::{Ask, Reply};
+use ocm_history_kept::{Draft, KeptRecord, KeptRecords, RecordFault, add_asked, add_text};
 use ocm_types::Host;
 use std::alloc::Global;
 
@@ -55,36 +50,16 @@ impl History {
         }
     }
 
-    /// The moment at an ask that changes something: that of a tick is its clock.
-    fn moment_at(&self, ask: &Ask) -> u64
-        ensures { (g : List Entry) → IsAfter self.now.core.state g → let host = home_of self.now in result ≡ moment (heard host g ask.now ∷ kept host g) }
-    {
-        match clock_of(ask) {
-            Some(clock) => clock,
-            None => self.core.moment(),
-        }
-    }
-
-    /// What is written of an ask that changes something, in an area of this form, and what is kept of it.
-    fn draft(&self, form: u8, ask: &Ask) -> Result<Draft, NoMemory>
-        requires { IsTrue (has_spelling ask.now) }
-        ensures drafted { IfOk result (λ draft. (g : List Entry) → IsAfter self.now.core.state g → IsDraft (home_of self.now) form g ask.now draft) }
-        ensures length { IfOk result (λ draft. (1 ≤ length draft.written) × (length draft.written ≤ 2097152)) }
-        ensures fits { OnOk result (Fits ask.now) }
-    {
-        let clock = self.moment_at(ask);
-        let draft = Draft::of(self.records.allocator(), form, clock, ask)?;
-        Ok(draft)
-    }
-
     /// Takes the memory of what is planned.
     fn room(&mut self, planned: &Planned) -> Result<(), NoMemory>
         requires { IsPlanned self.old.core.state planned.now }
         ensures place { OnOk result (HasPlace self.new planned.now) }
         ensures same { SameMemory self.old self.new }
     {
-        self.core.room(planned)?;
-        self.records.room()
+        match self.core.room(planned) {
+            Ok(()) => self.records.room(),
+            Err(NoMemory) => Err(NoMemory),
+        }
     }
 
     /// Takes the memory of what is planned for an ask, and drafts it in an area of this form.
@@ -98,7 +73,7 @@ impl History {
         ensures same { SameMemory self.old self.new }
     {
         self.room(planned)?;
-        let draft = self.draft(form, ask)?;
+        let draft = Draft::after(self.records.allocator(), form, self.core.moment(), ask)?;
         Ok(draft)
     }
 
@@ -113,33 +88,12 @@ impl History {
         ensures exact { (g : List Entry) (ask : Ask) (form : ℕ) → IsChange self.now g ask planned.now form draft.now → area < result + (if is_tick_record draft.now.newest then 15 else 2)
             → let host = home_of self.now in result ≡ min (asks_size (lean host (heard host g ask ∷ g))) 18446744073709551615 }
     {
-        let most = self.most_with(draft);
+        let most = draft.most_with(&self.records);
         if most.saturating_add(draft.newest.rest_size()) <= area {
             most
         } else {
             self.lean_size(planned, &draft.newest)
         }
-    }
-
-    /// The bound on the size of the records of asks, with one entry more.
-    fn most_with(&self, draft: &Draft) -> u64
-        ensures value { result ≡ min (self.now.records.size + (if is_tick_record draft.now.newest then 0 else draft.now.size)) 18446744073709551615 }
-    {
-        if draft.newest.is_tick() {
-            self.records.size()
-        } else {
-            self.records.size().saturating_add(draft.size)
-        }
-    }
-
-    /// The body that the kept entry of this number put, where it is a PUT whose body still stands once the planned
-    /// change is made.
-    fn body<'a>(&'a self, planned: &'a Planned, entry: u64) -> Option<&'a Bytes>
-        requires planned { IsPlanned self.now.core.state planned.now }
-        requires few { length self.now.records.items < 18446744073709551615 }
-        ensures { (g : List Entry) (ask : Ask) (form : ℕ) (draft : Draft) → IsChange self.now g ask planned.now form draft → option_copied result ≡ bodies_with (home_of self.now) g ask entry }
-    {
-        self.core.standing(planned, entry)
     }
 
     /// How many bytes of an area the records of asks take in the shortest form of the journal, once a change is made of
@@ -153,10 +107,10 @@ impl History {
         let records = self.records.as_slice();
         let mut size: u64 = 0;
         for (place, record) in records.iter().enumerate() {
-            let standing = self.body(planned, place as u64 + 1);
+            let standing = self.core.standing(planned, place as u64 + 1);
             size = size.saturating_add(record.asked_size(standing));
         }
-        let standing = self.body(planned, records.len() as u64 + 1);
+        let standing = self.core.standing(planned, records.len() as u64 + 1);
         size.saturating_add(newest.asked_size(standing))
     }
 
@@ -178,10 +132,10 @@ impl History {
         let records = self.records.as_slice();
         let mut texts = List::new(alloc);
         for (place, record) in records.iter().enumerate() {
-            let standing = self.body(planned, place as u64 + 1);
+            let standing = self.core.standing(planned, place as u64 + 1);
             add_asked(alloc, &mut texts, record, standing)?;
         }
-        let standing = self.body(planned, records.len() as u64 + 1);
+        let standing = self.core.standing(planned, records.len() as u64 + 1);
         add_text(alloc, &mut texts, newest, standing)?;
         Ok(texts)
     }
@@ -241,7 +195,8 @@ impl History {
         }
         match self.prepare(2, ask, &planned) {
             Ok(draft) => {
-                self.take_drafted(planned, draft);
+                let size = draft.most_with(&self.records);
+                drop(self.make(planned, draft.into_newest(), size));
                 Ok(true)
             }
             Err(NoMemory) => {
@@ -249,73 +204,6 @@ impl History {
                 Err(NoMemory)
             }
         }
-    }
-
-    /// Makes what is planned and drafted.
-    fn take_drafted(&mut self, planned: Planned, draft: Draft)
-        requires planned { IsPlanned self.old.core.state planned }
-        requires place { HasPlace self.old planned }
-        ensures home { home_of self.new ≡ home_of self.old }
-        ensures goes_on { (g : List Entry) (ask : Ask) (form : ℕ) → IsChange self.old g ask planned form draft → IsOf self.new (told ask planned.reply ∷ g) }
-    {
-        let size = self.most_with(&draft);
-        let Draft {
-            written,
-            newest,
-            size: _,
-        } = draft;
-        drop(written);
-        drop(self.make(planned, newest, size));
-    }
-}
-
-/// Adds the record in form 2 of an ask, where this body still stands or none; that of a tick is passed over.
-fn add_asked(
-    alloc: Global,
-    texts: &mut List<Bytes>,
-    kept: &KeptRecord,
-    standing: Option<&Bytes>,
-) -> Result<(), RecordFault>
-    ensures sizes { OnOk result (AreRecords texts.old → AreRecords texts.new) }
-    ensures text { OnOk result (let text = lean_text kept.now (option_copied standing.entry) in texts.new ≡ (if is_tick_record kept.now then texts.old else texts.old ++ text ∷ [])) }
-    ensures full { result ≡ Err RecordFault.TooLong → (is_tick_record kept.now ≡ false) × IsTooLong (lean_text kept.now (option_copied standing.entry)) }
-{
-    if kept.is_tick() {
-        return Ok(());
-    }
-    add_text(alloc, texts, kept, standing)
-}
-
-/// Adds the record in form 2, where this body still stands or none.
-fn add_text(
-    alloc: Global,
-    texts: &mut List<Bytes>,
-    kept: &KeptRecord,
-    standing: Option<&Bytes>,
-) -> Result<(), RecordFault>
-    ensures sizes { OnOk result (AreRecords texts.old → AreRecords texts.new) }
-    ensures text { OnOk result (texts.new ≡ texts.old ++ lean_text kept.now (option_copied standing.entry) ∷ []) }
-    ensures full { result ≡ Err RecordFault.TooLong → IsTooLong (lean_text kept.now (option_copied standing.entry)) }
-{
-    let text = kept.text(alloc, standing)?;
-    texts.push(text)?;
-    Ok(())
-}
-
-/// The clock of a tick.
-fn clock_of(ask: &Ask) -> Option<u64>
-    ensures { result ≡ clock_of ask.now }
-{
-    match ask {
-        Ask::Tick { clock } => Some(*clock),
-        Ask::AddUser { .. }
-        | Ask::Local { .. }
-        | Ask::Offer { .. }
-        | Ask::Notice { .. }
-        | Ask::Dav { .. }
-        | Ask::Due
-        | Ask::Settle { .. }
-        | Ask::Carry { .. } => None,
     }
 }
 

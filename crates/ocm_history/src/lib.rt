@@ -7,15 +7,10 @@
 //! journal to get the memory of the server that wrote them.
 #![tactic(auto)]
 
-mod drafts;
-mod faults;
 mod histories;
-mod kept;
 pub mod laws;
 mod reading;
 
-pub use drafts::Draft;
-pub use faults::{RecordFault, ReplayFault};
 pub use histories::{History, let_go};
-pub use kept::{KeptRecord, KeptRecords};
+pub use ocm_history_kept::{Draft, KeptRecord, KeptRecords, RecordFault, ReplayFault};
 pub use reading::take_records;

@@ -1,40 +1,21 @@
 //! How the memory of a server is made of the records of its journal.
 
-ghost use Rattle.std.specs.Prelude.{◌≡◌, ℕ, List, [], Some, None, IfOk, IfErr, IfSome, OnOk, IsTrue};
+ghost use Rattle.std.specs.Prelude.{◌≡◌, List, [], Some, None, IfOk, IfErr, OnOk, IsTrue};
 ghost use Rattle.ocm_entry.specs.declared.entries.Entry.{Entry};
 ghost use Rattle.ocm_entry.specs.Proper.{is_proper};
 ghost use Rattle.ocm_image.specs.Layout.{contents};
-ghost use Rattle.ocm_audit.specs.Stamps.{stamped_of};
 ghost use Rattle.ocm_audit.specs.declared.stamps.Stamped.TheVariants as stamps;
-ghost use Rattle.ocm_law_sessions.specs.Readings.{goes_on, opened, refused_at, with_ask, with_stamped};
+ghost use Rattle.ocm_law_sessions.specs.Readings.{goes_on, opened, refused_at, with_stamped};
 ghost use Rattle.ocm_history.specs.Histories.{home_of};
-ghost use Rattle.ocm_history.specs.Replays.{GoesOn, HasProperAsk, IsMemoryOf, IsReplayFault, with_clock};
+ghost use Rattle.ocm_history_kept.specs.Asking.{HasProperAsk};
+ghost use Rattle.ocm_history.specs.Replays.{GoesOn, IsMemoryOf, IsReplayFault, with_clock};
 
-use crate::faults::ReplayFault;
 use crate::histories::History;
-use ocm_audit::{Stamped, read_stamped};
+use ocm_audit::Stamped;
 use ocm_base::{List, NoMemory};
 use ocm_entry::Ask;
+use ocm_history_kept::{ReplayFault, read_proper};
 use ocm_image::RawRecord;
-
-/// Goes on by an ask with its answer. False where it would change nothing.
-fn take_ask(history: &mut History, ask: &Ask) -> Result<bool, NoMemory>
-    requires { IsTrue (is_proper ask.now) }
-    ensures home { home_of history.new ≡ home_of history.old }
-    ensures goes_on { IfOk result (GoesOn history.old history.new (with_ask (home_of history.old) ask.now)) }
-{
-    let taken = history.take(ask)?;
-    Ok(taken)
-}
-
-/// Goes on by a tick. False where its clock is not above the moment so far.
-fn take_moment(history: &mut History, clock: u64) -> Result<bool, NoMemory>
-    ensures home { home_of history.new ≡ home_of history.old }
-    ensures goes_on { IfOk result (GoesOn history.old history.new (with_ask (home_of history.old) (Ask.Tick clock))) }
-{
-    let taken = history.take_tick(clock)?;
-    Ok(taken)
-}
 
 /// Goes on by a tick with this clock where it is above the moment so far. False where it is below.
 fn take_clock(history: &mut History, clock: u64) -> Result<bool, NoMemory>
@@ -45,8 +26,7 @@ fn take_clock(history: &mut History, clock: u64) -> Result<bool, NoMemory>
     if clock <= moment {
         return Ok(moment == clock);
     }
-    let taken = take_moment(history, clock)?;
-    Ok(taken)
+    history.take_tick(clock)
 }
 
 /// Goes on by a moment and the ask behind it: by a tick where the moment is above that so far, and then by the ask. False
@@ -60,8 +40,7 @@ fn take_timed(history: &mut History, clock: u64, ask: &Ask) -> Result<bool, NoMe
     if !known {
         return Ok(false);
     }
-    let taken = take_ask(history, ask)?;
-    Ok(taken)
+    history.take(ask)
 }
 
 /// Goes on by what a record says. False where the record may not stand here.
@@ -71,19 +50,10 @@ fn take_said(history: &mut History, said: &Stamped) -> Result<bool, NoMemory>
     ensures goes_on { IfOk result (GoesOn history.old history.new (with_stamped (home_of history.old) said.now)) }
 {
     match said {
-        Stamped::Bare(ask) => take_ask(history, ask),
-        Stamped::Moment(clock) => take_moment(history, *clock),
+        Stamped::Bare(ask) => history.take(ask),
+        Stamped::Moment(clock) => history.take_tick(*clock),
         Stamped::Timed(clock, ask) => take_timed(history, *clock, ask),
     }
-}
-
-/// What a record of an area of this form says. Its ask is proper.
-fn read_proper(history: &History, form: u8, bytes: &[u8]) -> Result<Option<Stamped>, NoMemory>
-    ensures says { IfOk result (λ said. said ≡ stamped_of form bytes.now) }
-    ensures proper { IfOk result (λ said. IfSome said HasProperAsk) }
-{
-    let said = read_stamped(history.records.allocator(), form, bytes)?;
-    Ok(said)
 }
 
 /// Goes on by one record of an area of this form. False where it says nothing or may not stand here.
@@ -91,22 +61,15 @@ fn take_record(history: &mut History, form: u8, raw: &RawRecord) -> Result<bool,
     ensures home { home_of history.new ≡ home_of history.old }
     ensures goes_on { IfOk result (GoesOn history.old history.new (λ k. goes_on (home_of history.old) form k raw.now.bytes)) }
 {
-    match read_proper(history, form, raw.bytes.as_slice()) {
-        Ok(Some(said)) => take_all_said(history, said),
+    match read_proper(history.records.allocator(), form, raw.bytes.as_slice()) {
+        Ok(Some(said)) => {
+            let taken = take_said(history, &said);
+            drop(said);
+            taken
+        }
         Ok(None) => Ok(false),
         Err(NoMemory) => Err(NoMemory),
     }
-}
-
-/// Goes on by what a record says, which is let go. False where the record may not stand here.
-fn take_all_said(history: &mut History, said: Stamped) -> Result<bool, NoMemory>
-    requires { HasProperAsk said }
-    ensures home { home_of history.new ≡ home_of history.old }
-    ensures goes_on { IfOk result (GoesOn history.old history.new (with_stamped (home_of history.old) said)) }
-{
-    let taken = take_said(history, &said);
-    drop(said);
-    taken
 }
 
 /// Goes on from nothing by the records of an area of this form. `Refused` has the place of the gate of the first by which

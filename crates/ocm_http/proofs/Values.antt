@@ -20,7 +20,7 @@ use Rattle.httparse.specs.Grammar.{IsToken, AllPass, is_uri_byte, is_value_byte,
 use Rattle.httparse.proofs.TrimLemmas.{AllPass-reverse}
 use Rattle.ocm_types.specs.Hosts.{is_host, is_host_byte, is_host_name, is_kept_port, is_port, is_default_port, cut_at_first}
 use Rattle.ocm_types.specs.Texts.{has_length}
-use Rattle.ocm_base.specs.Decimal.{number_after}
+use Rattle.ocm_texts.specs.Decimal.{number_after}
 use Rattle.ocm_http.specs.Written.{basic}
 use Rattle.ocm_http.specs.ReadBack.{IsClear, field, AreBytes}
 

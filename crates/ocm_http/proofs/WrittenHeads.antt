@@ -10,7 +10,7 @@ use Rattle.std.proofs.lemmas.List.Sums.{AllPass-from_list_all, list_all-from_All
 use Rattle.std.proofs.lemmas.List.Elements.{All-head, All-tail, All-map, All-weaker}
 use Rattle.std.proofs.lemmas.Fmt.{digits_value-decimal, decimal_nonempty, length-decimal-le}
 use Rattle.httparse.specs.Grammar.{Field as Line, IsField, IsToken, AllPass, crlf, print_field, is_token_byte, is_value_byte, is_uri_byte, trim_ows}
-use Rattle.ocm_base.specs.Decimal.{number_after}
+use Rattle.ocm_texts.specs.Decimal.{number_after}
 use Rattle.ocm_heads.specs.Endings.{found, blanks, is_blank, of_head}
 use Rattle.ocm_heads.specs.Heads.{field_of, kept_field}
 use Rattle.ocm_heads.specs.Lengths.{counted}

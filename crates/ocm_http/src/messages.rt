@@ -4,7 +4,7 @@ use ocm_base::{Bytes, NoMemory};
 use ocm_heads::Head;
 
 /// Which messages a stream has.
-#[derive(Clone, Copy, Debug, PartialEq, Eq)]
+#[derive(Clone, Copy)]
 pub enum Kind {
     /// What clients send.
     Requests,
@@ -13,7 +13,7 @@ pub enum Kind {
 }
 
 /// A message: its head and its body, without chunks (RFC 9112 section 2.1).
-#[derive(Debug, Drop, PartialEq, Eq)]
+#[derive(Drop)]
 pub struct Message {
     pub head: Head,
     pub body: Bytes,

@@ -13,7 +13,7 @@ use ocm_types::{Host, Secret};
 use std::alloc::Global;
 
 /// The replies that take no memory.
-#[derive(Clone, Copy, Debug, PartialEq, Eq)]
+#[derive(Clone, Copy)]
 pub enum Fixed {
     /// 400, where a connection's stream has a fault.
     Bad,

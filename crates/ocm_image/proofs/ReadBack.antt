@@ -6,7 +6,7 @@ use Rattle.std.proofs.lemmas.Grind.{common_steps}
 use Rattle.std.proofs.lemmas.Bool.{cases_eq}
 use Rattle.std.proofs.lemmas.Bool.Decides.{nat_tests}
 use Rattle.std.specs.Int.{w32, w64, to_be_bytes, from_be_bytes}
-use Rattle.ocm_base.specs.Hex.{AreBytes}
+use Rattle.ocm_texts.specs.Hex.{AreBytes}
 use Rattle.ocm_image.specs.declared.readings.RawRecord.{RawRecord}
 use Rattle.ocm_image.specs.declared.readings.Records.{Records}
 use Rattle.ocm_image.specs.declared.readings.Area.{Area}

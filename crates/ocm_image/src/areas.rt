@@ -4,7 +4,7 @@ ghost use Rattle.ocm_image.specs.Reading.{FirstIs, Gives, TakesNext, record_leng
 
 use crate::faults::{ImageFault, NotImage};
 use crate::readings::{Area, RawRecord, Records};
-use ocm_base::{Bytes, List};
+use ocm_texts::{Bytes, List};
 use std::alloc::Global;
 
 /// The most bytes of a record.

@@ -5,11 +5,11 @@ ghost use Rattle.ocm_image.specs.Blank.{blank_of, IsBlankForAny};
 
 use crate::fresh::fresh_bytes;
 use crate::headers::area_in;
-use ocm_base::NoMemory;
+use ocm_texts::NoMemory;
 use std::alloc::Global;
 
 /// How far the making of a journal had come.
-#[derive(Clone, Copy, Debug, PartialEq, Eq)]
+#[derive(Clone, Copy)]
 pub enum Blank {
     /// At most one byte is there.
     Empty,

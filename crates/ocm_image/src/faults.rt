@@ -1,4 +1,4 @@
-use ocm_base::NoMemory;
+use ocm_texts::NoMemory;
 
 /// Bytes are no image: the place of the first byte that can't stand in one, or at which bytes are wanting.
 #[derive(Clone, Copy, Debug, PartialEq, Eq)]

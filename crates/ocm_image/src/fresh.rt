@@ -1,7 +1,7 @@
 ghost use Rattle.std.specs.Prelude.{◌≡◌, ◌≤◌, ◌++◌, ◌+◌, length, replicate, IfOk, OnOk, IsTrue, ◌↔◌};
 ghost use Rattle.ocm_image.specs.Layout.{IsLabel, AreRecords, named, fresh, area_text, block, blocks_size};
 
-use ocm_base::{Bytes, List, NoMemory};
+use ocm_texts::{Bytes, List, NoMemory};
 use std::alloc::Global;
 
 /// So many zeros.

@@ -4,7 +4,7 @@ ghost use Rattle.ocm_image.specs.Layout.{live_start, IsLabel, IsAreaSize};
 
 use crate::faults::ImageFault;
 use crate::readings::Header;
-use ocm_base::Bytes;
+use ocm_texts::Bytes;
 use std::alloc::Global;
 
 /// How many bytes a header has.

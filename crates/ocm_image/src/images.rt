@@ -22,7 +22,7 @@ fn live_bytes<'a>(header: &Header, bytes: &'a [u8]) -> &'a [u8]
 }
 
 /// What stands in an image before its records, and the bytes of its records.
-#[derive(Debug, Drop)]
+#[derive(Drop)]
 pub struct Front<'a> {
     pub header: Header,
     /// The form of the live area: 1 or 2.

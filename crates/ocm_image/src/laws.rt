@@ -2,7 +2,7 @@
 ghost use Rattle.std.specs.Prelude.{◌≡◌, ℕ, ◌+◌, List, Ok};
 ghost use Rattle.ocm_image.specs.Blank.{IsBlank};
 ghost use Rattle.ocm_image.specs.Layout.{IsImage, placed, contents, live_start, blocks_size};
-ghost use Rattle.ocm_base.specs.Hex.{AreBytes};
+ghost use Rattle.ocm_texts.specs.Hex.{AreBytes};
 ghost use Rattle.ocm_image.specs.Reading.{image_of};
 ghost use Rattle.ocm_image.specs.declared.readings.Image.{Image};
 

@@ -1,7 +1,7 @@
-use ocm_base::{Bytes, List};
+use ocm_texts::{Bytes, List};
 
 /// A record as it stands in an area.
-#[derive(Debug, Drop, PartialEq, Eq)]
+#[derive(Drop)]
 pub struct RawRecord {
     /// The place of its gate byte in the file.
     pub place: u64,
@@ -10,7 +10,7 @@ pub struct RawRecord {
 }
 
 /// The records of an area, the oldest first.
-#[derive(Debug, Drop, PartialEq, Eq)]
+#[derive(Drop)]
 pub struct Records {
     pub items: List<RawRecord>,
     /// The place behind the last of them, where the gate byte of the next one would stand.
@@ -18,7 +18,7 @@ pub struct Records {
 }
 
 /// What an area holds.
-#[derive(Debug, Drop, PartialEq, Eq)]
+#[derive(Drop)]
 pub struct Area {
     /// 1 or 2.
     pub form: u8,
@@ -29,7 +29,7 @@ pub struct Area {
 }
 
 /// What a header tells.
-#[derive(Debug, Drop, PartialEq, Eq)]
+#[derive(Drop)]
 pub struct Header {
     /// Whose journal it is, in 1 to 255 bytes.
     pub label: Bytes,
@@ -40,7 +40,7 @@ pub struct Header {
 }
 
 /// A journal as its bytes tell it.
-#[derive(Debug, Drop, PartialEq, Eq)]
+#[derive(Drop)]
 pub struct Image {
     pub header: Header,
     /// The live area.

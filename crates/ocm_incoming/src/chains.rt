@@ -123,7 +123,7 @@ impl Chain {
         let number = self.groups.len() as u32 + 1;
         let kept: Result<_, _> = self.last.insert(group, number);
         let _before = kept.unwrap();
-        self.earlier.push(before).unwrap();
-        self.groups.push(group).unwrap();
+        self.earlier.push_reserved(before);
+        self.groups.push_reserved(group);
     }
 }

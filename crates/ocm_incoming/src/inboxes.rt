@@ -227,7 +227,7 @@ impl Inbox {
     {
         let group = self.by_user.group_of(request.received);
         self.by_asker.push(group);
-        self.requests.push(request).unwrap();
+        self.requests.push_reserved(request);
         self.requests.len() as u32
     }
 

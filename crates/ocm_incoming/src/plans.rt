@@ -7,7 +7,7 @@ use ocm_types::{Address, Name, Offer, ProviderId, Secret, ShareName};
 use std::marker::Model;
 
 /// All that an offer says, to find it by.
-#[derive(Debug, PartialEq, Eq, Hash)]
+#[derive(PartialEq, Eq, Hash)]
 pub struct OfferKey {
     pub with: Address,
     pub name: ShareName,
@@ -66,7 +66,6 @@ impl OfferKey {
 }
 
 /// An offer that can be received without memory, with what it is found by. Contracts see the offer.
-#[derive(Debug)]
 pub struct PlannedOffer {
     offer: Offer,
     key: OfferKey,

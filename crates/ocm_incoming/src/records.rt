@@ -145,7 +145,7 @@ impl RecordTable {
             offer,
             phase: Phase::Pending,
         };
-        self.rows.push(row).unwrap();
+        self.rows.push_reserved(row);
     }
 
     /// The record of this number is in this phase from now on.

@@ -5,7 +5,6 @@ use ocm_base::NoMemory;
 use ocm_types::{Offer, Phase, ProviderId, Secret};
 
 /// A received offer, with how far it has come. Records are numbered from 1.
-#[derive(Debug, PartialEq, Eq)]
 pub struct Record {
     pub offer: Offer,
     pub phase: Phase,
@@ -18,12 +17,18 @@ impl Drop for Record {
 }
 
 /// What a notification names received offers by: those with this id and this secret.
-#[derive(Debug, Drop, PartialEq, Eq, Hash)]
+#[derive(PartialEq, Eq, Hash)]
 pub struct Mark {
     /// The owner's mark of the share: `providerId` (Open Cloud Mesh API 1.1).
     pub id: ProviderId,
     /// What the recipient shows to reach the share: `sharedSecret`.
     pub secret: Secret,
+}
+
+impl Drop for Mark {
+    fn drop(self) {
+        let Mark { id: _, secret: _ } = self;
+    }
 }
 
 impl Mark {

@@ -8,7 +8,7 @@ use std::alloc::Global;
 use std::marker::Model;
 
 /// A member of a group, and whether it counts.
-#[derive(Clone, Copy, Debug)]
+#[derive(Clone, Copy)]
 pub struct Tag {
     pub group: u32,
     pub counts: bool,
@@ -18,11 +18,16 @@ pub struct Tag {
 /// members of a group count is kept for each group.
 ///
 /// A group has the number of a member.
-#[derive(Drop)]
 pub struct Tally {
     tags: Vec<Tag>,
     /// How many members count, for each group that a member could have the number of.
     counts: Vec<u32>,
+}
+
+impl Drop for Tally {
+    fn drop(self) {
+        let Tally { tags: _, counts: _ } = self;
+    }
 }
 
 impl Model for Tally {
@@ -87,10 +92,10 @@ impl Tally {
         ensures room { self.old.room ≤ self.new.room + 1 }
     {
         let place = group as usize - 1;
-        self.counts.push(0).unwrap();
+        self.counts.push_reserved(0);
         let count = self.counts[place] + one_if(counts);
         self.counts[place] = count;
-        self.tags.push(Tag { group, counts }).unwrap();
+        self.tags.push_reserved(Tag { group, counts });
     }
 
     /// Whether the member of this number counts from now on.

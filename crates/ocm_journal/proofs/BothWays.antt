@@ -1,7 +1,7 @@
 -- What bytes open to is what they are an image of.
 use Rattle.std.proofs.Common.{◌≡◌, ◌⊎◌, inl, inr, ℕ, ◌+◌, Bool, true, false, nat_eq, if◌then◌else◌, List, [], length, Option, Some, None, IsSome, Result, Ok, Err, refl, sym, ◌∙◌, ap, subst}
 use Rattle.std.specs.Cmp.Lexicographic.{pointwise, bytes_decides}
-use Rattle.ocm_base.specs.Hex.{AreBytes}
+use Rattle.ocm_texts.specs.Hex.{AreBytes}
 use Rattle.ocm_image.specs.declared.blanks.Blank.{Blank}
 use Rattle.ocm_image.specs.declared.readings.RawRecord.{RawRecord}
 use Rattle.ocm_image.specs.declared.readings.Area.{Area}

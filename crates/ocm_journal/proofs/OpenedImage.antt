@@ -3,7 +3,7 @@ use Rattle.std.proofs.Common.{◌≡◌, ◌≤◌, ◌<◌, ◌⊎◌, inl, inr
 use Rattle.std.proofs.lemmas.List.{take_all, take_min, take-take, drop_all, length-drop, get_or-take}
 use Rattle.std.proofs.lemmas.Bool.Decides.{nat_tests}
 use Rattle.std.specs.Cmp.Lexicographic.{pointwise, bytes_decides}
-use Rattle.ocm_base.specs.Hex.{AreBytes}
+use Rattle.ocm_texts.specs.Hex.{AreBytes}
 use Rattle.ocm_image.specs.declared.faults.ImageFault.{ImageFault}
 use Rattle.ocm_image.specs.declared.faults.ImageFault.TheVariants as image_faults
 use Rattle.ocm_image.specs.declared.readings.RawRecord.{RawRecord}

@@ -1,6 +1,6 @@
 //! Laws of the definitions, each the contract of a function that computes nothing.
 ghost use Rattle.std.specs.Prelude.{◌≡◌, ◌⊎◌, ◌+◌, ℕ, List, [], None, Ok};
-ghost use Rattle.ocm_base.specs.Hex.{AreBytes};
+ghost use Rattle.ocm_texts.specs.Hex.{AreBytes};
 ghost use Rattle.ocm_image.specs.Blank.{blank_of, IsBlank};
 ghost use Rattle.ocm_image.specs.Layout.{IsImage, contents, live_start, placed};
 ghost use Rattle.ocm_image.specs.declared.readings.RawRecord.{RawRecord};

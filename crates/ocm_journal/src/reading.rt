@@ -1,6 +1,6 @@
 //! How a disk is read, which changes nothing on it.
 ghost use Rattle.std.specs.Prelude.{◌≡◌, ◌≤◌, ◌<◌, ◌+◌, ◌^◌, min, List, ℕ, length, take, drop, OnOk, IfOk, IfErr, Ok, Err};
-ghost use Rattle.ocm_base.specs.Hex.{AreBytes};
+ghost use Rattle.ocm_texts.specs.Hex.{AreBytes};
 ghost use Rattle.ocm_disk.specs.Disk.{LeavesOnly};
 ghost use Rattle.ocm_image.specs.Layout.{IsLabel, IsAreaSize};
 ghost use Rattle.ocm_image.specs.Reading.{header_of, area_of, start_of};

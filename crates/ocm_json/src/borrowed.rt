@@ -7,7 +7,7 @@ ghost use Rattle.ocm_json.specs.Nested.{object_field, texts_field, objects_field
 use crate::faults::{FieldFault, JsonFieldFault};
 use crate::fields::Fields;
 use crate::lists::{objects_among, texts_among};
-use ocm_base::{List, NoMemory, Text};
+use ocm_texts::{List, NoMemory, Text};
 use serde_json::Value;
 use std::alloc::Global;
 

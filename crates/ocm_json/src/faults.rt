@@ -1,4 +1,4 @@
-use ocm_base::NoMemory;
+use ocm_texts::NoMemory;
 use std::alloc::AllocError;
 
 /// Why bytes are not the fields of a JSON object.

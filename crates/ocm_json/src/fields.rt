@@ -7,7 +7,7 @@ ghost use Rattle.ocm_json.specs.Nested.{object_field, texts_field, objects_field
 use crate::borrowed::FieldsRef;
 use crate::faults::{FieldFault, JsonFault, JsonFieldFault};
 use crate::lists::copies;
-use ocm_base::{List, Text};
+use ocm_texts::{List, Text};
 use serde_json::{Category, Value};
 use std::alloc::Global;
 

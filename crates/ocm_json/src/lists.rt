@@ -7,7 +7,7 @@ ghost use Rattle.ocm_json.specs.Seen.{data_at, data_in};
 use crate::borrowed::FieldsRef;
 use crate::faults::JsonFieldFault;
 use crate::fields::Fields;
-use ocm_base::{List, NoMemory, Text};
+use ocm_texts::{List, NoMemory, Text};
 use serde_json::Value;
 use std::alloc::Global;
 

@@ -5,7 +5,7 @@ use Rattle.std.specs.Option.{option_map_or}
 use Rattle.std.proofs.lemmas.Bool.{le-ltb, ltb-false}
 use Rattle.std.proofs.lemmas.List.{length-append}
 use Rattle.std.proofs.lemmas.List.Sums.{sum_by-append}
-use Rattle.ocm_base.specs.Hex.{hex}
+use Rattle.ocm_texts.specs.Hex.{hex}
 use Rattle.ocm_types.specs.declared.addresses.Address.{Address}
 use Rattle.ocm_types.specs.declared.letters.Notice.TheVariants as notices
 use Rattle.ocm_types.specs.declared.letters.Offer.{Offer}

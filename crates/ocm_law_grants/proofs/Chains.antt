@@ -3,7 +3,7 @@ use Rattle.std.specs.Prelude.{Option, Some, None, nat_eq, nat_lt, if◌then◌el
 use Rattle.std.specs.Option.{option_map_or}
 use Rattle.std.proofs.lemmas.Bool.{eq-eqb, eqb-false, ltb-true, ltb-false}
 use Rattle.std.proofs.lemmas.List.{length-append, length-reverse, reverse-append}
-use Rattle.ocm_base.specs.Hex.{hex}
+use Rattle.ocm_texts.specs.Hex.{hex}
 use Rattle.ocm_types.specs.declared.addresses.Address.{Address}
 use Rattle.ocm_types.specs.declared.rights.Rights.{Rights}
 use Rattle.ocm_types.specs.declared.letters.Notice.TheVariants as notices

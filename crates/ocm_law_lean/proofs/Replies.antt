@@ -1,6 +1,6 @@
 use Rattle.std.proofs.Common.{◌≡◌, ℕ, List, [], map, Bool, true, false, refl, ap, ◌∙◌}
 use Rattle.std.specs.Prelude.{Option, Some, None, ◌&&◌, not, if◌then◌else◌, option_map, is_some, length}
-use Rattle.ocm_base.specs.Hex.{hex}
+use Rattle.ocm_texts.specs.Hex.{hex}
 use Rattle.ocm_path.specs.Paths.{Segments, is_root}
 use Rattle.ocm_types.specs.declared.addresses.Address.{Address}
 use Rattle.ocm_types.specs.declared.rights.Rights.{Rights}

@@ -3,7 +3,7 @@ use Rattle.std.specs.Prelude.{Option, Some, None, nat_lt, ◌&&◌, not, if◌th
 use Rattle.std.specs.Option.{option_map_or}
 use Rattle.std.proofs.lemmas.Bool.{eq-eqb, eqb-true, le-ltb, lt-ltb}
 use mathlib.Core.Logic.{◌⊎◌, inl, inr}
-use Rattle.ocm_base.specs.Hex.{hex}
+use Rattle.ocm_texts.specs.Hex.{hex}
 use Rattle.ocm_types.specs.declared.addresses.Address.{Address}
 use Rattle.ocm_types.specs.declared.letters.Notice.TheVariants as notices
 use Rattle.ocm_types.specs.declared.phases.Which.TheVariants as limits

@@ -28,9 +28,9 @@ use Rattle.ocm_law_logs.proofs.Bare.{bare-same, moment-same}
 use Rattle.ocm_law_logs.proofs.Truths.{all-later, count-grows, moments-grow, none-false}
 use Rattle.ocm_logcheck.specs.Checks.{Checks, Opened, Opens, told_of, unless_false}
 use Rattle.ocm_logcheck.proofs.Telling.{checks-one}
-use Rattle.ocm_world.specs.Servers.{Server, World, area, history, server_at}
+use Rattle.ocm_world_lines.specs.Servers.{Server, World, area, history, server_at}
 use Rattle.ocm_world.specs.Shelves.{AreShelved, IsShelved}
-use Rattle.ocm_world.specs.Traces.{Logged}
+use Rattle.ocm_world_lines.specs.Traces.{Logged}
 use Rattle.ocm_law_traces.specs.Texts.{HaveSoundTexts}
 use Rattle.ocm_law_traces.specs.TrueLogs.{IsTrueLog}
 use Rattle.ocm_law_traces.proofs.Growing.{history_at}

@@ -5,8 +5,8 @@ use Rattle.std.specs.Fmt.{decimal}
 use Rattle.std.proofs.lemmas.Bool.{and_parts}
 use Rattle.std.proofs.lemmas.Bool.Decides.{nat_tests}
 use Rattle.std.proofs.lemmas.Fmt.{digits_decimal, decimal_nonempty, length-decimal-le}
-use Rattle.ocm_base.specs.Decimal.{is_digit_byte}
-use Rattle.ocm_base.proofs.DecimalLaws.{numerals}
+use Rattle.ocm_texts.specs.Decimal.{is_digit_byte}
+use Rattle.ocm_texts.proofs.DecimalLaws.{numerals}
 use Rattle.std.specs.Str.{is_utf8}
 use Rattle.ocm_path.specs.Paths.{Segments, is_barred, is_dots, is_segment, is_path, path_text, last}
 use Rattle.ocm_types.specs.Texts.{is_allowed, is_text, is_name, is_share_name, is_provider_id, is_sender_id}

@@ -1,6 +1,6 @@
 //! That the values here are those of the rules, where what a view gives is passed.
 ghost use Rattle.std.specs.Prelude.{◌≡◌, ℕ, List, Option, map, unwrap_or};
-ghost use Rattle.ocm_base.specs.Hex.{hex};
+ghost use Rattle.ocm_texts.specs.Hex.{hex};
 ghost use Rattle.ocm_path.specs.Paths.{Segments};
 ghost use Rattle.ocm_types.specs.declared.addresses.Address.{Address};
 ghost use Rattle.ocm_types.specs.declared.rights.Rights.{Rights};

@@ -24,7 +24,7 @@ pub trait SharesByNumber {
 }
 
 /// What the guest of the share of this number may do from now on.
-#[derive(Clone, Copy, Debug, PartialEq, Eq)]
+#[derive(Clone, Copy)]
 pub struct NewPerms {
     /// The number of the share.
     pub id: u32,

@@ -57,6 +57,10 @@ most_nodes = 65536
 abbrev pub most_children : ℕ
 most_children = 4096
 
+-- a path as it is read, and a path in an ask
+abbrev pub most_asked_path_bytes : ℕ
+most_asked_path_bytes = 1024
+
 -- a path that a copy or move makes
 abbrev pub most_path_bytes : ℕ
 most_path_bytes = 2048

@@ -46,6 +46,9 @@ pub const MOST_NODES: u64 = 65_536;
 /// The most files and collections that lie in one collection.
 pub const MOST_CHILDREN: u64 = 4_096;
 
+/// The most bytes of a path as it is read, and of a path in an ask.
+pub const MOST_ASKED_PATH_BYTES: usize = 1_024;
+
 /// The most bytes of a path that a copy or move makes.
 pub const MOST_PATH_BYTES: usize = 2_048;
 

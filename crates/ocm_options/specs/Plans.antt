@@ -5,7 +5,7 @@ use Rattle.std.specs.declared.alloc.Global.{Global}
 use Rattle.clap.specs.declared.builder.action.ArgAction.TheVariants.{Set}
 use Rattle.clap.specs.Words.{App, Rule, Row, Text, Kinds, new_app, new_rule, with_rule, matches_of, fault_of, first_of}
 use Rattle.clap.specs.Simple.{on_top}
-use Rattle.ocm_base.specs.Decimal.{decimal_of}
+use Rattle.ocm_texts.specs.Decimal.{decimal_of}
 use Rattle.ocm_limits.specs.Limits.{most_workers}
 use Rattle.ocm_types.specs.Hosts.{host_of}
 use Rattle.ocm_types.specs.Texts.{secret_of}

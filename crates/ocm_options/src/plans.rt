@@ -2,7 +2,6 @@ use ocm_base::Text;
 use ocm_types::{Host, Secret};
 
 /// What a running server is to be.
-#[derive(Debug, PartialEq, Eq)]
 pub struct Plan {
     /// The host whose server it is.
     pub host: Host,

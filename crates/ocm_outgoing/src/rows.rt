@@ -7,7 +7,6 @@ use ocm_rules::Subject;
 use ocm_types::{Letter, Notice, Numbered, ProviderId};
 
 /// A message that was sent, with whether it is settled.
-#[derive(Debug)]
 pub struct Sent {
     pub numbered: Numbered,
     pub subject: Subject,
@@ -29,7 +28,7 @@ impl Drop for Sent {
 }
 
 /// The unsettled messages about one thing: the number of the first that is not settled, and of the last.
-#[derive(Clone, Copy, Debug)]
+#[derive(Clone, Copy)]
 pub struct Thread {
     pub first: u32,
     pub last: u32,

@@ -20,7 +20,7 @@ use serde_json::{Map, Value, put};
 use std::alloc::Global;
 
 /// A list of what a user has.
-#[derive(Clone, Copy, Debug, PartialEq, Eq)]
+#[derive(Clone, Copy)]
 pub enum Part {
     /// The shares that were offered to the user.
     Received,

@@ -2,7 +2,7 @@ use ocm_base::Joined;
 use ocm_davmore::Span;
 
 /// The methods that a target takes, as a page with the status 405 tells them (RFC 9110 section 10.2.1).
-#[derive(Clone, Copy, Debug, PartialEq, Eq)]
+#[derive(Clone, Copy)]
 pub enum Allow {
     /// Those of the discovery document: GET and HEAD.
     Discovery,
@@ -13,7 +13,7 @@ pub enum Allow {
 }
 
 /// What a request says of the page that answers it.
-#[derive(Clone, Copy, Debug, PartialEq, Eq)]
+#[derive(Clone, Copy)]
 pub struct Shape {
     /// It is a HEAD: the page's body is left away, and its length is told all the same (RFC 9110 section 9.3.2).
     pub bodyless: bool,
@@ -26,7 +26,7 @@ pub struct Shape {
 }
 
 /// The answer to a request.
-#[derive(Debug, Drop)]
+#[derive(Drop)]
 pub struct Page {
     /// The status of HTTP.
     pub status: u16,

@@ -11,6 +11,7 @@ use Rattle.std.proofs.lemmas.List.Elements.{All-nil, All-cons, All-append, All-g
 use Rattle.std.proofs.lemmas.List.Splits.{slice_split_none, slice_split_at}
 use Rattle.std.proofs.lemmas.Str.{IsUtf8-from_is_utf8}
 use lib.Utf8.{scalar, scalar_cases}
+use Rattle.ocm_limits.specs.Limits.{most_asked_path_bytes}
 use Rattle.percent_encoding.specs.AsciiSet.{should_percent_encode}
 use Rattle.percent_encoding.specs.Percent.{percent_encode_byte, percent_decode}
 use Rattle.percent_encoding.proofs.PercentLemmas.{IsByte, IsEscapeByte, All-percent_encode, percent_encode_nonempty, round_trip}
@@ -192,17 +193,17 @@ EndsWell-joined s (t ∷ ts) sound =
 
 -- ---- the path
 
-path_below-joined : (s : List ℕ) (ss : Segments) → list_all is_segment (s ∷ ss) ≡ true → length (path_text (s ∷ ss)) ≤ 1024 → path_below (escape s ++ joined_escaped ss) ≡ Ok (s ∷ ss)
+path_below-joined : (s : List ℕ) (ss : Segments) → list_all is_segment (s ∷ ss) ≡ true → length (path_text (s ∷ ss)) ≤ most_asked_path_bytes → path_below (escape s ++ joined_escaped ss) ≡ Ok (s ∷ ss)
 path_below-joined s ss sound short =
     let well = EndsWell-joined s ss sound in
     let some = well.some in
     cond-false _ _ _ (ne_eqb (length (escape s ++ joined_escaped ss)) 0 (λ none. omega arith))
     ∙ ap (λ (text : List ℕ). within_limit (segments_of (slice_split is_slash text))) (cond-false _ _ _ well.ends)
     ∙ ap within_limit (segments_of-joined s ss sound)
-    ∙ cond-false _ _ _ (le-ltb 1024 (length (path_text (s ∷ ss))) short)
+    ∙ cond-false _ _ _ (le-ltb most_asked_path_bytes (length (path_text (s ∷ ss))) short)
 
 -- the escaped text of a path is read as that path
-pub path_of-path_escaped : (path : Segments) → is_path path ≡ true → length (path_text path) ≤ 1024 → path_of (path_escaped path) ≡ Ok path
+pub path_of-path_escaped : (path : Segments) → is_path path ≡ true → length (path_text path) ≤ most_asked_path_bytes → path_of (path_escaped path) ≡ Ok path
 path_of-path_escaped [] sound short = refl
 path_of-path_escaped (s ∷ ss) sound short =
     ap path_of (cond-false _ _ (joined_escaped (s ∷ ss)) (is_root-cons s ss))

@@ -1,6 +1,7 @@
 -- The text of a path, read as it stands: no byte of it is escaped.
 use Rattle.std.specs.Prelude.{ℕ, Bool, ◌&&◌, ◌==◌, nat_le, List, [], ◌∷◌, length, if◌then◌else◌, Option, Some, None}
 use Rattle.std.specs.List.{list_all, slice_split}
+use Rattle.ocm_limits.specs.Limits.{most_asked_path_bytes}
 use Rattle.ocm_path.specs.Paths.{Segments, is_slash, is_segment}
 
 -- a piece, if it is a segment
@@ -13,7 +14,7 @@ if_segments pieces = if list_all is_segment pieces then Some pieces else None
 
 -- whether these are the segments of a path whose text has `len` bytes, at most 1,024
 abbrev pub are_segments : ℕ → Segments → Bool
-are_segments len segments = nat_le len 1024 && list_all is_segment segments
+are_segments len segments = nat_le len most_asked_path_bytes && list_all is_segment segments
 
 -- what stands after the first `/`: nothing at the root, else segments between `/`
 abbrev pub below_slash : List ℕ → Option Segments

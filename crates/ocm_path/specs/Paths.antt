@@ -3,7 +3,7 @@ use Rattle.std.specs.Prelude.{ℕ, ◌-◌, Bool, not, ◌&&◌, ◌||◌, ◌==
 use Rattle.std.specs.List.{flat_map, list_any, list_all, slice_split, starts_with}
 use Rattle.std.specs.Str.{is_utf8}
 use Rattle.std.specs.Cmp.Lexicographic.{pointwise}
-use Rattle.ocm_limits.specs.Limits.{most_path_bytes}
+use Rattle.ocm_limits.specs.Limits.{most_asked_path_bytes, most_path_bytes}
 use Rattle.percent_encoding.specs.Percent.{percent_decode}
 use Rattle.ocm_path.specs.Escapes.{escape, are_escapes}
 use Rattle.ocm_path.specs.declared.faults.PathFault.{PathFault}
@@ -108,7 +108,7 @@ without_last_slash text = if slice_index text (length text - 1) == 47 then take 
 -- a path that was read, if its text has at most 1,024 bytes
 abbrev pub within_limit : Result Segments PathFault → Result Segments PathFault
 within_limit (Err fault) = Err fault
-within_limit (Ok path) = if nat_lt 1024 (length (path_text path)) then Err TooLong else Ok path
+within_limit (Ok path) = if nat_lt most_asked_path_bytes (length (path_text path)) then Err TooLong else Ok path
 
 -- what follows the first `/` of a text: nothing at the root, else segments between `/`
 abbrev pub path_below : List ℕ → Result Segments PathFault

@@ -4,7 +4,7 @@ ghost use Rattle.percent_encoding.specs.Percent.{percent_decode};
 ghost use Rattle.ocm_path.specs.Escapes.{escape, begins_with_digits, are_escapes};
 
 use crate::faults::PathFault;
-use ocm_base::{NoMemory, Text};
+use ocm_texts::{NoMemory, Text};
 use percent_encoding::{AsciiSet, NON_ALPHANUMERIC, ascii_set, percent_decode, percent_encode};
 use std::alloc::Global;
 

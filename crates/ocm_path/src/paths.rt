@@ -1,12 +1,13 @@
 ghost use Rattle.std.specs.Prelude.{◌≡◌, ◌≢◌, [], ◌++◌, ◌≤◌, length, drop, Some, None, Ok, Err, IfOk, IfErr, IsTrue, option_copied};
-ghost use Rattle.ocm_limits.specs.Limits.{most_path_bytes};
+ghost use Rattle.ocm_limits.specs.Limits.{most_asked_path_bytes, most_path_bytes};
 ghost use Rattle.ocm_path.specs.Paths.{parent, is_root, last, is_above, path_text, path_escaped, is_path, path_below, path_of, path_given};
 ghost use Rattle.ocm_path.specs.PathTexts.{below_slash, path_with_text};
 
 use crate::faults::PathFault;
 use crate::reading::{own_segments, read_segments, without_last_slash};
 use crate::segments::{add_copies, behind, joined, joined_escaped, joined_len};
-use ocm_base::{List, NoMemory, Text};
+use ocm_limits::MOST_ASKED_PATH_BYTES;
+use ocm_texts::{List, NoMemory, Text};
 use std::alloc::Global;
 use std::hash::{Hash, Hasher};
 use std::marker::Model;
@@ -15,7 +16,7 @@ use std::marker::Model;
 ///
 /// Each segment is a text of 1 to 255 bytes, neither `.` nor `..`, with no `/` and no control
 /// character of ASCII. The path's text has at most 2,048 bytes.
-#[derive(Debug, PartialEq, Eq, PartialOrd, Ord)]
+#[derive(Debug, PartialEq, Eq)]
 pub struct Path {
     segments: List<Text>,
 }
@@ -55,7 +56,7 @@ impl Path {
     pub fn read(alloc: Global, rest: &str) -> Result<Path, PathFault>
         ensures ok { IfOk result (λ path. path_of rest.now ≡ Ok path) }
         ensures err { IfErr result (λ fault. fault ≢ PathFault.NoMemory → path_of rest.now ≡ Err fault) }
-        ensures within { IfOk result (λ path. length (path_text path) ≤ 1024) }
+        ensures within { IfOk result (λ path. length (path_text path) ≤ most_asked_path_bytes) }
         ensures given { IfOk result (λ path. path_given rest.now ≡ Some path) }
         ensures refused { IfErr result (λ fault. fault ≢ PathFault.NoMemory → path_given rest.now ≡ None) }
     {
@@ -69,13 +70,13 @@ impl Path {
     fn read_below(alloc: Global, below: &[u8]) -> Result<Path, PathFault>
         ensures ok { IfOk result (λ path. path_below below.now ≡ Ok path) }
         ensures err { IfErr result (λ fault. fault ≢ PathFault.NoMemory → path_below below.now ≡ Err fault) }
-        ensures within { IfOk result (λ path. length (path_text path) ≤ 1024) }
+        ensures within { IfOk result (λ path. length (path_text path) ≤ most_asked_path_bytes) }
     {
         if below.is_empty() {
             return Ok(Path::root(alloc));
         }
         let segments = read_segments(alloc, without_last_slash(below))?;
-        if joined_len(segments.as_slice()) > 1024 {
+        if joined_len(segments.as_slice()) > MOST_ASKED_PATH_BYTES {
             drop(segments);
             return Err(PathFault::TooLong);
         }
@@ -100,7 +101,7 @@ impl Path {
         if below.is_empty() {
             return Ok(Some(Path::root(alloc)));
         }
-        if below.len() > 1023 {
+        if below.len() >= MOST_ASKED_PATH_BYTES {
             return Ok(None);
         }
         match own_segments(alloc, below)? {
@@ -188,8 +189,8 @@ impl Path {
 
     /// This path with those segments below it.
     pub fn join(&self, below: &Path) -> Result<Path, NoMemory>
-        requires this { length (path_text self.now) ≤ 1024 }
-        requires below { length (path_text below.now) ≤ 1024 }
+        requires this { length (path_text self.now) ≤ most_asked_path_bytes }
+        requires below { length (path_text below.now) ≤ most_asked_path_bytes }
         ensures { IfOk result (λ path. path ≡ self.now ++ below.now) }
     {
         let mut segments = self.segments.copy()?;

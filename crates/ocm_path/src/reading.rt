@@ -6,7 +6,7 @@ ghost use Rattle.ocm_path.specs.PathTexts.{if_segment, if_segments};
 use crate::escapes::{are_escapes, decoded_text};
 use crate::faults::PathFault;
 use crate::segments::text_fault;
-use ocm_base::{List, NoMemory, Text};
+use ocm_texts::{List, NoMemory, Text};
 use std::alloc::Global;
 use std::str;
 

@@ -6,7 +6,7 @@ ghost use Rattle.ocm_path.specs.Paths.{is_barred, is_dots, text_fault, joined, j
 
 use crate::escapes::add_escaped;
 use crate::faults::PathFault;
-use ocm_base::{List, NoMemory, Text};
+use ocm_texts::{List, NoMemory, Text};
 use std::alloc::Global;
 
 fn is_barred(byte: u8) -> bool

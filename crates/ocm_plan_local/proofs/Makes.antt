@@ -1,6 +1,6 @@
 use Rattle.std.proofs.Common.{◌≡◌, ℕ, ◌+◌, ◌<◌, List, [], ◌∷◌, map, length, false, Option, Some, IsSome, IsTrue, refl, sym, ap, ◌∙◌}
 use Rattle.std.proofs.lemmas.List.{length-map}
-use Rattle.ocm_base.specs.Hex.{hex}
+use Rattle.ocm_texts.specs.Hex.{hex}
 use Rattle.ocm_path.specs.Paths.{Segments}
 use Rattle.ocm_types.specs.declared.addresses.Address.{Address}
 use Rattle.ocm_types.specs.declared.letters.Offer.{Offer}

@@ -5,7 +5,7 @@ ghost use Rattle.ocm_entry.specs.declared.asks.Ask.TheVariants as asks;
 ghost use Rattle.ocm_types.specs.declared.letters.Notice.TheVariants as notices;
 ghost use Rattle.ocm_plan.specs.Plans.{Plans};
 
-use crate::reads::behind;
+use crate::reads::received_behind;
 use ocm_base::NoMemory;
 use ocm_entry::{Reply, Why};
 use ocm_incoming::Mark;
@@ -41,8 +41,7 @@ pub fn plan_changed(
     if !tables.is_received(&mark) {
         return Ok(Planned::refused(tables, Why::UnknownShare));
     }
-    let received = tables.received_with(&mark)?;
-    let numbers = behind(tables, &received, serial)?;
+    let numbers = received_behind(tables, &mark, serial)?;
     if numbers.is_empty() {
         return Ok(Planned::only(tables, Reply::Noticed));
     }

@@ -1,6 +1,8 @@
 //! What plans read of the tables, beyond what these offer.
-ghost use Rattle.std.specs.Prelude.{◌≡◌, IfOk, IsSome, Some, filter, nat_lt, option_and_then, option_copied};
-ghost use Rattle.ocm_rules.specs.Numbers.{at_number};
+ghost use Rattle.std.specs.Prelude.{◌≡◌, IfOk, IsSome, Some, false, filter, nat_lt, option_and_then, option_copied};
+ghost use Rattle.std.specs.Option.{option_map_or};
+ghost use Rattle.ocm_rules.specs.Numbers.{at_number, numbers};
+ghost use Rattle.ocm_rules.specs.Offers.{is_of};
 ghost use Rattle.ocm_rules.specs.Shares.{named};
 ghost use Rattle.ocm_rules.specs.Answers.{is_child_of, parent_row};
 ghost use Rattle.ocm_rules.specs.Messages.{without};
@@ -8,6 +10,7 @@ ghost use Rattle.ocm_rules.specs.State.{view_in};
 
 use ocm_base::{List, NoMemory};
 use ocm_entry::{Share, User};
+use ocm_incoming::Mark;
 use ocm_tables::Tables;
 use ocm_types::{ProviderId, Secret};
 
@@ -26,8 +29,14 @@ fn parent_of_named<'a>(tables: &'a Tables, id: &ProviderId) -> Option<&'a Share>
     ensures { option_copied result ≡ option_and_then (parent_row (view_in tables.now.state)) (option_and_then (at_number (view_in tables.now.state).shares) (named id.now)) }
 {
     let number = tables.named_share(id)?;
-    let share = tables.share(number)?;
-    let parent = share.parent?;
+    parent_of(tables, number)
+}
+
+/// The parent of the share of this number.
+fn parent_of(tables: &Tables, number: u32) -> Option<&Share>
+    ensures { option_copied result ≡ option_and_then (parent_row (view_in tables.now.state)) (at_number (view_in tables.now.state).shares number) }
+{
+    let parent = tables.share(number)?.parent?;
     tables.share(parent)
 }
 
@@ -63,9 +72,19 @@ fn told_serial(tables: &Tables, number: u32) -> u32
     }
 }
 
+/// The numbers of the received offers with this mark whose guest was told of no change as late as the one
+/// of this serial, ascending.
+pub fn received_behind(tables: &Tables, mark: &Mark, serial: u32) -> Result<List<u32>, NoMemory>
+    ensures { IfOk result (λ behind. behind ≡ filter (λ n. nat_lt ((view_in tables.now.state).told n).serial serial)
+        (filter (λ n. option_map_or (is_of mark.now.id mark.now.secret) (at_number (view_in tables.now.state).offers n) false) (numbers (view_in tables.now.state).offers))) }
+{
+    let received = tables.received_with(mark)?;
+    behind(tables, &received, serial)
+}
+
 /// Those of these received offers whose guest was told of no change as late as the one of this serial,
 /// in the same order.
-pub fn behind(tables: &Tables, numbers: &List<u32>, serial: u32) -> Result<List<u32>, NoMemory>
+fn behind(tables: &Tables, numbers: &List<u32>, serial: u32) -> Result<List<u32>, NoMemory>
     ensures { IfOk result (λ behind. behind ≡ filter (λ n. nat_lt ((view_in tables.now.state).told n).serial serial) numbers.now) }
 {
     let behind = numbers

@@ -1,7 +1,7 @@
 //! Requests of guests that a share be shared further (OCM API 1.1, `REQUEST_RESHARE`).
 ghost use Rattle.std.specs.Prelude.{◌≡◌, ◌<◌, ◌+◌, ◌∷◌, [], ◌&&◌, ℕ, IfErr, IfOk, IsSome, List, OnOk, false, if◌then◌else◌, length, option_copied, unwrap_or};
 ghost use Rattle.std.specs.Option.{option_map_or};
-ghost use Rattle.ocm_base.specs.Hex.{hex};
+ghost use Rattle.ocm_texts.specs.Hex.{hex};
 ghost use Rattle.ocm_limits.specs.Limits.{most_shares};
 ghost use Rattle.ocm_entry.specs.declared.asks.Ask.{Ask};
 ghost use Rattle.ocm_entry.specs.declared.asks.Ask.TheVariants as asks;

@@ -19,7 +19,7 @@ use ocm_types::{Letter, Notice, Numbered, ProviderId};
 use std::alloc::Global;
 
 /// What a server answered to a letter.
-#[derive(Debug, Drop, PartialEq, Eq)]
+#[derive(Drop)]
 pub struct Answered {
     /// The status of its reply.
     pub status: u16,

@@ -2,7 +2,6 @@ use ocm_base::{Bytes, NoMemory};
 use ocm_types::Host;
 
 /// A request that was sent to a host, and the bytes that came back. None where the dial failed.
-#[derive(Debug, PartialEq, Eq)]
 pub struct Exchange {
     pub host: Host,
     pub request: Bytes,

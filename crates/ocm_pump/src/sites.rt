@@ -9,7 +9,7 @@ use std::alloc::Global;
 use url::{ParseError, Url};
 
 /// Where a server takes letters and gives files, by its discovery document (Open Cloud Mesh API 1.1).
-#[derive(Debug, Drop, PartialEq, Eq)]
+#[derive(Drop)]
 pub struct Site {
     /// The host of its `endPoint`.
     pub host: Host,

@@ -1,7 +1,9 @@
 pub mod DocumentsBack
 pub mod EachNote
+pub mod Failing
 pub mod Groups
 pub mod NoticesBack
 pub mod ReadBack
 pub mod Words
+pub mod WrittenBytes
 pub mod WrittenLaws

@@ -7,4 +7,5 @@ pub mod Offers
 pub mod Readings
 pub mod Rows
 pub mod Sound
+pub mod Wanted
 pub mod Written

@@ -1,16 +1,16 @@
 //! Fields that have one of some words.
 
-ghost use Rattle.std.specs.Prelude.{◌≡◌, codes};
+ghost use Rattle.std.specs.Prelude.{◌≡◌, codes, true};
 ghost use Rattle.ocm_json.specs.Seen.{data_at};
 ghost use Rattle.ocm_records.specs.Kinds.{meaning, optional};
 ghost use Rattle.ocm_records.specs.Readings.{resource};
 ghost use Rattle.ocm_records.specs.Offers.{share_type, protocol_name};
 ghost use Rattle.ocm_records.specs.Notices.{event_words, notification_type};
 ghost use Rattle.ocm_records.specs.Commands.{command_words, command_name};
-ghost use Rattle.ocm_records.specs.Rows.{Gives, required};
+ghost use Rattle.ocm_records.specs.Rows.{Gives, defaulted, required};
 
 use crate::faults::{Field, RecordFault};
-use crate::kinds::{present, text_at};
+use crate::kinds::{text_at, text_in};
 use ocm_json::FieldsRef;
 
 /// How an offer says where its share is found: `protocol.name`.
@@ -58,8 +58,7 @@ pub enum Command {
 pub fn share_type(fields: FieldsRef<'_>) -> Result<bool, RecordFault>
     ensures { Gives (λ b. b) result (required (data_at fields.entry) Field.ShareType share_type) }
 {
-    let text = text_at(fields, Field::ShareType)?;
-    let word = present(Field::ShareType, text)?;
+    let word = text_in(fields, Field::ShareType)?;
     match word {
         "user" => Ok(true),
         "group" | "federation" => Err(RecordFault::Unsupported(Field::ShareType)),
@@ -78,12 +77,19 @@ pub fn resource_type(fields: FieldsRef<'_>) -> Result<Option<bool>, RecordFault>
     }
 }
 
+/// What is shared. It counts as supported where nothing is said of it.
+pub fn resource_if_said(fields: FieldsRef<'_>) -> Result<bool, RecordFault>
+    ensures { Gives (λ b. b) result (defaulted true (data_at fields.entry) Field.ResourceType resource) }
+{
+    let resource = resource_type(fields)?;
+    Ok(resource.unwrap_or(true))
+}
+
 /// The form of the access.
 pub fn protocol_name(fields: FieldsRef<'_>) -> Result<Protocol, RecordFault>
     ensures { Gives (λ b. b) result (required (data_at fields.entry) Field.Name protocol_name) }
 {
-    let text = text_at(fields, Field::Name)?;
-    let word = present(Field::Name, text)?;
+    let word = text_in(fields, Field::Name)?;
     match word {
         "webdav" => Ok(Protocol::Webdav),
         "multi" => Ok(Protocol::Multi),
@@ -110,8 +116,7 @@ fn event_of(word: &str) -> Option<Event>
 pub fn notification_type(fields: FieldsRef<'_>) -> Result<Event, RecordFault>
     ensures { Gives (λ e. e) result (required (data_at fields.entry) Field.NotificationType notification_type) }
 {
-    let text = text_at(fields, Field::NotificationType)?;
-    let word = present(Field::NotificationType, text)?;
+    let word = text_in(fields, Field::NotificationType)?;
     event_of(word).ok_or(RecordFault::Unsupported(Field::NotificationType))
 }
 
@@ -138,7 +143,6 @@ fn command_of(word: &str) -> Option<Command>
 pub fn command_name(fields: FieldsRef<'_>) -> Result<Command, RecordFault>
     ensures { Gives (λ c. c) result (required (data_at fields.entry) Field.Command command_name) }
 {
-    let text = text_at(fields, Field::Command)?;
-    let word = present(Field::Command, text)?;
+    let word = text_in(fields, Field::Command)?;
     command_of(word).ok_or(RecordFault::Value(Field::Command))
 }

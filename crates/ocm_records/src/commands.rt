@@ -10,7 +10,6 @@ use crate::faults::{Field, RecordFault};
 use crate::kinds::{moment, number, path, perms, some_address, some_perms, user_name};
 use crate::opening::fields_of;
 use crate::values::LocalAsk;
-use ocm_base::and;
 use ocm_entry::Cmd;
 use ocm_json::FieldsRef;
 use ocm_types::Fresh;
@@ -68,9 +67,8 @@ fn share(alloc: Global, fields: FieldsRef<'_>, fresh: Fresh) -> Result<LocalAsk,
     ensures { Gives (λ a. a) result (commands.share fresh (data_at fields.entry)) }
 {
     let path = path(alloc, fields, Field::Path)?;
-    let (path, with) = and(path, some_address(alloc, fields, Field::With))?;
-    let (read, perms) = and((path, with), some_perms(alloc, fields, Field::Permissions))?;
-    let (path, with) = read;
+    let with = some_address(alloc, fields, Field::With)?;
+    let perms = some_perms(alloc, fields, Field::Permissions)?;
     Ok(LocalAsk::Command(Cmd::Share {
         path,
         with,
@@ -127,7 +125,7 @@ fn reshare(alloc: Global, fields: FieldsRef<'_>) -> Result<LocalAsk, RecordFault
 {
     let number = number(fields, Field::Number)?;
     let with = some_address(alloc, fields, Field::With)?;
-    let (with, perms) = and(with, perms(alloc, fields, Field::Permissions))?;
+    let perms = perms(alloc, fields, Field::Permissions)?;
     Ok(LocalAsk::Command(Cmd::Reshare {
         number,
         with,

@@ -9,33 +9,29 @@ ghost use Rattle.ocm_records.specs.Documents.{discovery, error, is_discovery, is
 ghost use Rattle.ocm_records.specs.Rows.{record_of};
 
 use crate::values::{Discovery, ErrorBody, FieldNote};
-use crate::writing::{bytes_of, object_of, put_if, put_text};
+use crate::writing::{bytes_of, object_of, push_word, put_if, put_object, put_text};
 use ocm_base::{Bytes, NoMemory, Text};
-use serde_json::{Map, Value, json, push, put};
+use serde_json::{Map, Value, push, put};
 use std::alloc::Global;
 
 /// Writes a discovery document (Open Cloud Mesh API 1.1): its keys in the order of their bytes, and no other fields.
-#[tactic(auto, using(crate::proofs::WrittenLaws::discovery_no_float))]
 pub fn write_discovery(alloc: Global, v: &Discovery) -> Result<Bytes, NoMemory>
     requires { IsTrue (is_discovery v.now) }
     ensures text { IfOk result (λ b. b ≡ compact_text (written.discovery_data v.now)) }
     ensures read_back { IfOk result (λ b. record_of discovery b ≡ Ok v.now) }
 {
     let value = discovery_value(alloc, v)?;
-    let bytes = bytes_of(alloc, &value)?;
-    Ok(bytes)
+    bytes_of(alloc, &value)
 }
 
 /// Writes an error body (Open Cloud Mesh API 1.1). Without faulty fields there is no `validationErrors`.
-#[tactic(auto, using(crate::proofs::WrittenLaws::error_no_float))]
 pub fn write_error(alloc: Global, v: &ErrorBody) -> Result<Bytes, NoMemory>
     requires { IsTrue (is_error v.now) }
     ensures text { IfOk result (λ b. b ≡ compact_text (written.error_data v.now)) }
     ensures read_back { IfOk result (λ b. record_of error b ≡ Ok v.now) }
 {
     let value = error_value(alloc, v)?;
-    let bytes = bytes_of(alloc, &value)?;
-    Ok(bytes)
+    bytes_of(alloc, &value)
 }
 
 /// Adds whom the files of a resource type are shared with, and how they are reached.
@@ -46,10 +42,12 @@ fn put_files(members: &mut Map<String, Value>, alloc: Global, path: &str) -> Res
         (with_member (codes "shareTypes") (array (item (string (codes "user")) no_items))
         (members_view members.old.entries)))) }
 {
-    let users = json!(in alloc; ["user"])?;
-    put(members, alloc, "shareTypes", users)?;
-    let protocols = json!(in alloc; {"webdav": path})?;
-    put(members, alloc, "protocols", protocols)?;
+    let mut users = Vec::new(alloc);
+    push_word(alloc, &mut users, true, "user")?;
+    put(members, alloc, "shareTypes", Value::Array(users))?;
+    let mut protocols = Map::new(alloc);
+    let added = put_text(&mut protocols, alloc, "webdav", path);
+    put_object(members, alloc, "protocols", protocols, added)?;
     put_text(members, alloc, "name", "file")
 }
 

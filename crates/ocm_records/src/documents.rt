@@ -10,7 +10,7 @@ use crate::faults::{Field, RecordFault};
 use crate::kinds::{interface, object_at, objects_at, present, text_of, yes_or_no};
 use crate::opening::fields_of;
 use crate::values::{Discovery, ErrorBody, FieldNote};
-use ocm_base::{List, Text, and};
+use ocm_base::{List, Text};
 use ocm_json::FieldsRef;
 use std::alloc::Global;
 
@@ -20,8 +20,7 @@ pub fn read_discovery(alloc: Global, bytes: &[u8]) -> Result<Discovery, RecordFa
     ensures sound { IfOk result (λ d. IsTrue (documents.is_discovery d)) }
 {
     let fields = fields_of(alloc, bytes)?;
-    let document = discovery(alloc, fields.borrowed())?;
-    Ok(document)
+    discovery(alloc, fields.borrowed())
 }
 
 /// Reads an error body (Open Cloud Mesh API 1.1).
@@ -30,8 +29,7 @@ pub fn read_error(alloc: Global, bytes: &[u8]) -> Result<ErrorBody, RecordFault>
     ensures sound { IfOk result (λ e. IsTrue (documents.is_error e)) }
 {
     let fields = fields_of(alloc, bytes)?;
-    let body = error(alloc, fields.borrowed())?;
-    Ok(body)
+    error(alloc, fields.borrowed())
 }
 
 #[tactic(auto, unfolding(crate::specs::Documents::discovery))]
@@ -41,10 +39,8 @@ fn discovery(alloc: Global, fields: FieldsRef<'_>) -> Result<Discovery, RecordFa
 {
     let enabled = yes_or_no(fields, Field::Enabled)?;
     let version = text_of(alloc, fields, Field::ApiVersion, 1, 64)?;
-    let end_point = text_of(alloc, fields, Field::EndPoint, 1, 1024);
-    let (version, end_point) = and(version, end_point)?;
-    let (texts, webdav) = and((version, end_point), webdav_among(alloc, fields))?;
-    let (version, end_point) = texts;
+    let end_point = text_of(alloc, fields, Field::EndPoint, 1, 1024)?;
+    let webdav = webdav_among(alloc, fields)?;
     Ok(Discovery {
         enabled,
         version,
@@ -106,9 +102,8 @@ fn error(alloc: Global, fields: FieldsRef<'_>) -> Result<ErrorBody, RecordFault>
     ensures sound { IfOk result (λ e. documents.is_error e ≡ true) }
 {
     let message = text_of(alloc, fields, Field::Message, 0, 1024)?;
-    let objects = objects_at(alloc, fields, Field::ValidationErrors);
-    let (message, objects) = and(message, objects)?;
-    let (message, errors) = and(message, notes_of(alloc, objects))?;
+    let objects = objects_at(alloc, fields, Field::ValidationErrors)?;
+    let errors = notes_of(alloc, objects)?;
     Ok(ErrorBody { message, errors })
 }
 
@@ -147,7 +142,6 @@ fn note(alloc: Global, fields: FieldsRef<'_>) -> Result<FieldNote, RecordFault>
     ensures sound { IfOk result (λ n. documents.is_note n ≡ true) }
 {
     let message = text_of(alloc, fields, Field::Message, 0, 1024)?;
-    let name = text_of(alloc, fields, Field::Name, 0, 1024);
-    let (message, name) = and(message, name)?;
+    let name = text_of(alloc, fields, Field::Name, 0, 1024)?;
     Ok(FieldNote { message, name })
 }

@@ -1,6 +1,6 @@
 //! Fields of a record, each read by its kind.
 
-ghost use Rattle.std.specs.Prelude.{◌≡◌, ◌≤◌, Some, Ok, Err, IfOk, codes, option_copied, option_map, map, true};
+ghost use Rattle.std.specs.Prelude.{◌≡◌, ◌≤◌, Some, Ok, Err, IfErr, IfOk, codes, option_copied, option_map, map, true};
 ghost use Rattle.ocm_json.specs.Seen.{data_at};
 ghost use Rattle.ocm_types.specs.Texts.{has_length};
 ghost use Rattle.ocm_records.specs.Kinds as kinds;
@@ -9,7 +9,8 @@ ghost use Rattle.ocm_records.specs.Readings as readings;
 ghost use Rattle.ocm_records.specs.Notices as notices;
 ghost use Rattle.ocm_records.specs.Commands as commands;
 ghost use Rattle.ocm_records.specs.Documents as documents;
-ghost use Rattle.ocm_records.specs.Rows.{Gives, required, or_else};
+ghost use Rattle.ocm_records.specs.Rows.{Fails, Gives, required, or_else};
+ghost use Rattle.ocm_records.specs.Wanted.{wanted_text};
 
 use crate::faults::{Field, RecordFault};
 use ocm_base::{List, Text};
@@ -77,6 +78,15 @@ pub fn present<T: Drop>(field: Field, value: Option<T>) -> Result<T, RecordFault
     value.ok_or(RecordFault::Missing(field))
 }
 
+/// The field as a text, which has to be there.
+pub fn text_in(fields: FieldsRef<'_>, field: Field) -> Result<&str, RecordFault>
+    ensures ok { IfOk result (λ t. kinds.text_at (data_at fields.entry) field ≡ Ok (Some t.now)) }
+    ensures err { IfErr result (λ e. Fails e (wanted_text (data_at fields.entry) field)) }
+{
+    let text = text_at(fields, field)?;
+    present(field, text)
+}
+
 /// The value of a text that was read, or the fault that it is a bad value.
 fn taken<T: Drop>(field: Field, value: Result<T, TextFault>) -> Result<T, RecordFault>
     ensures { result ≡ readings.taken_text field value }
@@ -92,8 +102,7 @@ fn taken<T: Drop>(field: Field, value: Result<T, TextFault>) -> Result<T, Record
 pub fn user_name(alloc: Global, fields: FieldsRef<'_>, field: Field) -> Result<Name, RecordFault>
     ensures { Gives (λ s. s) result (required (data_at fields.entry) field readings.user_name) }
 {
-    let text = text_at(fields, field)?;
-    let text = present(field, text)?;
+    let text = text_in(fields, field)?;
     taken(field, Name::read(alloc, text))
 }
 
@@ -105,8 +114,7 @@ pub fn share_name(
 ) -> Result<ShareName, RecordFault>
     ensures { Gives (λ s. s) result (required (data_at fields.entry) field readings.share_name) }
 {
-    let text = text_at(fields, field)?;
-    let text = present(field, text)?;
+    let text = text_in(fields, field)?;
     taken(field, ShareName::read(alloc, text))
 }
 
@@ -114,8 +122,7 @@ pub fn share_name(
 pub fn secret(alloc: Global, fields: FieldsRef<'_>, field: Field) -> Result<Secret, RecordFault>
     ensures { Gives (λ s. s) result (required (data_at fields.entry) field readings.secret) }
 {
-    let text = text_at(fields, field)?;
-    let text = present(field, text)?;
+    let text = text_in(fields, field)?;
     taken(field, Secret::read(alloc, text))
 }
 
@@ -301,8 +308,7 @@ pub fn moment(fields: FieldsRef<'_>, field: Field) -> Result<u64, RecordFault>
 pub fn path(alloc: Global, fields: FieldsRef<'_>, field: Field) -> Result<Path, RecordFault>
     ensures { Gives (λ p. p) result (required (data_at fields.entry) field readings.path) }
 {
-    let text = text_at(fields, field)?;
-    let text = present(field, text)?;
+    let text = text_in(fields, field)?;
     match Path::read(alloc, text) {
         Ok(path) => Ok(path),
         Err(PathFault::NoMemory) => Err(RecordFault::NoMemory),
@@ -331,8 +337,7 @@ pub fn text_of(
     ensures value { Gives (λ s. s) result (required (data_at fields.entry) field (documents.text_of low high)) }
     ensures length { IfOk result (λ s. has_length low high s ≡ true) }
 {
-    let text = text_at(fields, field)?;
-    let text = present(field, text)?;
+    let text = text_in(fields, field)?;
     if low <= text.len() && text.len() <= high {
         let text = Text::of(alloc, text)?;
         Ok(text)

@@ -1,6 +1,6 @@
 //! Notifications as JSON.
 
-ghost use Rattle.std.specs.Prelude.{◌≡◌, IfOk, OnOk, codes, nat_le, true};
+ghost use Rattle.std.specs.Prelude.{◌≡◌, IfOk, IsOk, OnOk, codes, nat_le, true};
 ghost use Rattle.serde_json.specs.Data.{object, string, number, unsigned, put as with_member};
 ghost use Rattle.serde_json.specs.View.{view, members_view};
 ghost use Rattle.serde_json.specs.Written.{compact_text};
@@ -21,15 +21,13 @@ use serde_json::{Map, Value, put};
 use std::alloc::Global;
 
 /// Writes a notification: the body of POST to `{endPoint}/notifications` (Open Cloud Mesh API 1.1).
-#[tactic(auto, using(crate::proofs::WrittenLaws::notice_no_float))]
 pub fn write_notice(alloc: Global, v: &Notice) -> Result<Bytes, NoMemory>
     ensures text { IfOk result (λ b. b ≡ compact_text (written.notice_data v.now)) }
     // A change of permissions that is not counted from 1 is none that a server takes.
     ensures read_back { IfOk result (λ b. is_numbered v.now ≡ true → record_of notice b ≡ Ok v.now) }
 {
     let value = notice_value(alloc, v)?;
-    let bytes = bytes_of(alloc, &value)?;
-    Ok(bytes)
+    bytes_of(alloc, &value)
 }
 
 /// Adds what each notification has. The members are added from the last key on.
@@ -71,16 +69,19 @@ fn put_all(
     put_told(members, alloc, event, id)
 }
 
-/// The notification of this type about a share, with the object that tells it.
+/// The notification of this type about a share, with the object that tells it: these members, where all were added.
 fn told_value(
     alloc: Global,
     event: &str,
     id: &ProviderId,
-    notification: Value,
+    members: Map<String, Value>,
+    added: Result<(), NoMemory>,
 ) -> Result<Value, NoMemory>
-    ensures value { IfOk result (λ v. view v ≡ written.told_data event.now id.now (view notification)) }
-    ensures sound { IfOk result (λ _. is_provider_id id.now ≡ true) }
+    ensures value { IfOk result (λ v. view v ≡ written.told_data event.now id.now (object (members_view members.entries))) }
+    ensures added { OnOk result (IsOk added) }
+    ensures sound { OnOk result (is_provider_id id.now ≡ true) }
 {
+    let notification = object_of(members, added)?;
     let mut members = Map::new(alloc);
     let added = put_all(&mut members, alloc, event, id, notification);
     object_of(members, added)
@@ -121,23 +122,6 @@ fn put_accepted(
     put_address_if(members, alloc, "owner", owner)
 }
 
-/// How a recipient understood the offer that it took.
-#[tactic(auto, using(crate::proofs::WrittenLaws::accepted_in_order))]
-fn accepted_value(
-    alloc: Global,
-    secret: &Secret,
-    owner: &Option<Address>,
-    with: &Option<Address>,
-    perms: Option<Perms>,
-) -> Result<Value, NoMemory>
-    ensures value { IfOk result (λ v. view v ≡ object (written.accepted_members secret.now owner.now with.now perms)) }
-    ensures sound { IfOk result (λ _. (is_secret secret.now ≡ true) × AddressIf owner.now × AddressIf with.now × PermsIf perms) }
-{
-    let mut members = Map::new(alloc);
-    let added = put_accepted(&mut members, alloc, secret, owner, with, perms);
-    object_of(members, added)
-}
-
 /// Adds a recipient's request. The members are added from the last key on.
 fn put_request(
     members: &mut Map<String, Value>,
@@ -161,24 +145,6 @@ fn put_request(
     put_perms_if(members, alloc, "permissions", perms)
 }
 
-/// A recipient's request.
-#[tactic(auto, using(crate::proofs::WrittenLaws::request_in_order))]
-fn request_value(
-    alloc: Global,
-    secret: &Secret,
-    with: &Address,
-    sender_id: &SenderId,
-    perms: Option<Perms>,
-) -> Result<Value, NoMemory>
-    ensures value { IfOk result (λ v. view v ≡ object (written.request_members secret.now with.now sender_id.now perms)) }
-    ensures sound { IfOk result (λ _. (is_secret secret.now ≡ true) × ReadsAsItself with.now
-        × (is_sender_id sender_id.now ≡ true) × PermsIf perms) }
-{
-    let mut members = Map::new(alloc);
-    let added = put_request(&mut members, alloc, secret, with, sender_id, perms);
-    object_of(members, added)
-}
-
 /// Adds a change of permissions. The members are added from the last key on.
 fn put_change(
     members: &mut Map<String, Value>,
@@ -199,32 +165,6 @@ fn put_change(
     put_perms(members, alloc, "permissions", perms)
 }
 
-/// A change of permissions.
-fn change_value(
-    alloc: Global,
-    secret: &Secret,
-    serial: u32,
-    perms: Perms,
-) -> Result<Value, NoMemory>
-    ensures value { IfOk result (λ v. view v ≡ object (written.change_members secret.now serial perms)) }
-    ensures sound { IfOk result (λ _. (is_secret secret.now ≡ true) × (nat_le serial 4294967295 ≡ true)
-        × (is_any perms ≡ true)) }
-{
-    let mut members = Map::new(alloc);
-    let added = put_change(&mut members, alloc, secret, serial, perms);
-    object_of(members, added)
-}
-
-/// The secret alone.
-fn plain_value(alloc: Global, secret: &Secret) -> Result<Value, NoMemory>
-    ensures value { IfOk result (λ v. view v ≡ object (written.secret_member secret.now)) }
-    ensures sound { IfOk result (λ _. is_secret secret.now ≡ true) }
-{
-    let mut members = Map::new(alloc);
-    let added = put_secret(&mut members, alloc, secret);
-    object_of(members, added)
-}
-
 /// A notification that has the secret alone.
 fn plain_notice(
     alloc: Global,
@@ -235,11 +175,13 @@ fn plain_notice(
     ensures value { IfOk result (λ v. view v ≡ written.told_data event.now id.now (object (written.secret_member secret.now))) }
     ensures sound { IfOk result (λ _. HasMarks id.now secret.now) }
 {
-    let notification = plain_value(alloc, secret)?;
-    told_value(alloc, event, id, notification)
+    let mut members = Map::new(alloc);
+    let added = put_secret(&mut members, alloc, secret);
+    told_value(alloc, event, id, members, added)
 }
 
 /// A notification that the recipient took the share.
+#[tactic(auto, using(crate::proofs::WrittenLaws::accepted_in_order))]
 fn accepted_notice(
     alloc: Global,
     id: &ProviderId,
@@ -251,11 +193,13 @@ fn accepted_notice(
     ensures value { IfOk result (λ v. view v ≡ written.notice_data (Accepted id.now secret.now owner.now with.now perms)) }
     ensures sound { IfOk result (λ _. IsNotice (Accepted id.now secret.now owner.now with.now perms)) }
 {
-    let notification = accepted_value(alloc, secret, owner, with, perms)?;
-    told_value(alloc, "SHARE_ACCEPTED", id, notification)
+    let mut members = Map::new(alloc);
+    let added = put_accepted(&mut members, alloc, secret, owner, with, perms);
+    told_value(alloc, "SHARE_ACCEPTED", id, members, added)
 }
 
 /// A notification that asks to share with another.
+#[tactic(auto, using(crate::proofs::WrittenLaws::request_in_order))]
 fn request_notice(
     alloc: Global,
     id: &ProviderId,
@@ -267,8 +211,9 @@ fn request_notice(
     ensures value { IfOk result (λ v. view v ≡ written.notice_data (ReshareRequest id.now secret.now with.now sender_id.now perms)) }
     ensures sound { IfOk result (λ _. IsNotice (ReshareRequest id.now secret.now with.now sender_id.now perms)) }
 {
-    let notification = request_value(alloc, secret, with, sender_id, perms)?;
-    told_value(alloc, "REQUEST_RESHARE", id, notification)
+    let mut members = Map::new(alloc);
+    let added = put_request(&mut members, alloc, secret, with, sender_id, perms);
+    told_value(alloc, "REQUEST_RESHARE", id, members, added)
 }
 
 /// A notification that permissions changed.
@@ -282,8 +227,9 @@ fn changed_notice(
     ensures value { IfOk result (λ v. view v ≡ written.notice_data (Changed id.now secret.now serial perms)) }
     ensures sound { IfOk result (λ _. IsNotice (Changed id.now secret.now serial perms)) }
 {
-    let notification = change_value(alloc, secret, serial, perms)?;
-    told_value(alloc, "RESHARE_CHANGE_PERMISSION", id, notification)
+    let mut members = Map::new(alloc);
+    let added = put_change(&mut members, alloc, secret, serial, perms);
+    told_value(alloc, "RESHARE_CHANGE_PERMISSION", id, members, added)
 }
 
 fn notice_value(alloc: Global, v: &Notice) -> Result<Value, NoMemory>

@@ -5,13 +5,12 @@ ghost use Rattle.ocm_json.specs.Seen.{data_at};
 ghost use Rattle.ocm_records.specs.Notices as notices;
 ghost use Rattle.ocm_records.specs.Rows.{Gives, record_of};
 
-use crate::choices::{Event, notification_type, resource_type};
+use crate::choices::{Event, notification_type, resource_if_said};
 use crate::faults::{Field, RecordFault};
 use crate::kinds::{
     address, perms, provider_id, secret, sender_id, serial, some_address, some_object, some_perms,
 };
 use crate::opening::fields_of;
-use ocm_base::and;
 use ocm_json::FieldsRef;
 use ocm_types::{Notice, ProviderId, Secret};
 use std::alloc::Global;
@@ -29,10 +28,10 @@ fn notice(alloc: Global, fields: FieldsRef<'_>) -> Result<Notice, RecordFault>
     ensures { Gives (λ n. n) result (notices.notice (data_at fields.entry)) }
 {
     let event = notification_type(fields)?;
-    resource_type(fields)?;
+    resource_if_said(fields)?;
     let id = provider_id(alloc, fields, Field::ProviderId)?;
-    let (id, notification) = and(id, some_object(fields, Field::Notification))?;
-    let (id, secret) = and(id, secret(alloc, notification, Field::SharedSecret))?;
+    let notification = some_object(fields, Field::Notification)?;
+    let secret = secret(alloc, notification, Field::SharedSecret)?;
     told(alloc, event, id, secret, notification)
 }
 
@@ -65,10 +64,9 @@ fn accepted(
 ) -> Result<Notice, RecordFault>
     ensures { Gives (λ n. n) result (notices.accepted id secret (data_at notification.entry)) }
 {
-    let read = and((id, secret), address(alloc, notification, Field::Owner))?;
-    let read = and(read, address(alloc, notification, Field::ShareWith))?;
-    let (read, perms) = and(read, perms(alloc, notification, Field::Permissions))?;
-    let (((id, secret), owner), with) = read;
+    let owner = address(alloc, notification, Field::Owner)?;
+    let with = address(alloc, notification, Field::ShareWith)?;
+    let perms = perms(alloc, notification, Field::Permissions)?;
     Ok(Notice::Accepted {
         id,
         secret,
@@ -87,13 +85,9 @@ fn reshare_request(
 ) -> Result<Notice, RecordFault>
     ensures { Gives (λ n. n) result (notices.reshare_request id secret (data_at notification.entry)) }
 {
-    let read = and(
-        (id, secret),
-        some_address(alloc, notification, Field::ShareWith),
-    )?;
-    let read = and(read, sender_id(alloc, notification, Field::SenderId))?;
-    let (read, perms) = and(read, perms(alloc, notification, Field::Permissions))?;
-    let (((id, secret), with), sender_id) = read;
+    let with = some_address(alloc, notification, Field::ShareWith)?;
+    let sender_id = sender_id(alloc, notification, Field::SenderId)?;
+    let perms = perms(alloc, notification, Field::Permissions)?;
     Ok(Notice::ReshareRequest {
         id,
         secret,
@@ -112,9 +106,8 @@ fn changed(
 ) -> Result<Notice, RecordFault>
     ensures { Gives (λ n. n) result (notices.changed id secret (data_at notification.entry)) }
 {
-    let (marks, serial) = and((id, secret), serial(notification, Field::Serial))?;
-    let (marks, perms) = and(marks, some_perms(alloc, notification, Field::Permissions))?;
-    let (id, secret) = marks;
+    let serial = serial(notification, Field::Serial)?;
+    let perms = some_perms(alloc, notification, Field::Permissions)?;
     Ok(Notice::Changed {
         id,
         secret,

@@ -11,21 +11,19 @@ ghost use Rattle.ocm_records.specs.Rows.{record_of};
 ghost use Rattle.ocm_records.specs.Sound.{ReadsAsItself, IsOffer};
 ghost use Rattle.ocm_records.specs.Written as written;
 
-use crate::writing::{bytes_of, object_of, put_address, put_perms, put_text};
+use crate::writing::{bytes_of, object_of, put_address, put_object, put_perms, put_text};
 use ocm_base::{Bytes, NoMemory};
 use ocm_types::{Address, Offer, Perms, Secret};
-use serde_json::{Map, Value, put};
+use serde_json::{Map, Value};
 use std::alloc::Global;
 
 /// Writes an offer: the body of POST to `{endPoint}/shares` (Open Cloud Mesh API 1.1).
-#[tactic(auto, using(crate::proofs::WrittenLaws::offer_no_float))]
 pub fn write_offer(alloc: Global, v: &Offer) -> Result<Bytes, NoMemory>
     ensures text { IfOk result (λ b. b ≡ compact_text (written.offer_data v.now)) }
     ensures read_back { IfOk result (λ b. record_of offer b ≡ Ok v.now) }
 {
     let value = offer_value(alloc, v)?;
-    let bytes = bytes_of(alloc, &value)?;
-    Ok(bytes)
+    bytes_of(alloc, &value)
 }
 
 /// Adds how the share is reached by WebDAV. The members are added from the last key on.
@@ -47,17 +45,6 @@ fn put_access(
     put_perms(members, alloc, "permissions", perms)
 }
 
-/// How the share is reached by WebDAV.
-fn access_value(alloc: Global, secret: &Secret, perms: Perms) -> Result<Value, NoMemory>
-    ensures value { IfOk result (λ v. view v ≡ written.access_data secret.now perms) }
-    ensures secret { IfOk result (λ _. is_secret secret.now ≡ true) }
-    ensures perms { IfOk result (λ _. is_any perms ≡ true) }
-{
-    let mut members = Map::new(alloc);
-    let added = put_access(&mut members, alloc, secret, perms);
-    object_of(members, added)
-}
-
 /// Adds how the share is reached.
 fn put_protocol(
     members: &mut Map<String, Value>,
@@ -71,20 +58,10 @@ fn put_protocol(
     ensures secret { OnOk result (is_secret secret.now ≡ true) }
     ensures perms { OnOk result (is_any perms ≡ true) }
 {
-    let access = access_value(alloc, secret, perms)?;
-    put(members, alloc, "webdav", access)?;
+    let mut access = Map::new(alloc);
+    let added = put_access(&mut access, alloc, secret, perms);
+    put_object(members, alloc, "webdav", access, added)?;
     put_text(members, alloc, "name", "multi")
-}
-
-/// How the share is reached.
-fn protocol_value(alloc: Global, secret: &Secret, perms: Perms) -> Result<Value, NoMemory>
-    ensures value { IfOk result (λ v. view v ≡ written.protocol_data secret.now perms) }
-    ensures secret { IfOk result (λ _. is_secret secret.now ≡ true) }
-    ensures perms { IfOk result (λ _. is_any perms ≡ true) }
-{
-    let mut members = Map::new(alloc);
-    let added = put_protocol(&mut members, alloc, secret, perms);
-    object_of(members, added)
 }
 
 /// Adds with whom it is shared: one user. The members are added from the last key on.
@@ -133,8 +110,9 @@ fn put_first(members: &mut Map<String, Value>, alloc: Global, v: &Offer) -> Resu
     ensures perms { OnOk result (is_any v.now.perms ≡ true) }
 {
     put_text(members, alloc, "providerId", v.id.as_str())?;
-    let protocol = protocol_value(alloc, &v.secret, v.perms)?;
-    put(members, alloc, "protocol", protocol)?;
+    let mut protocol = Map::new(alloc);
+    let added = put_protocol(&mut protocol, alloc, &v.secret, v.perms);
+    put_object(members, alloc, "protocol", protocol, added)?;
     put_address(members, alloc, "owner", &v.owner)?;
     put_text(members, alloc, "name", v.name.as_str())
 }

@@ -106,9 +106,8 @@ fn origin(
     ensures { Gives (λ x. (x.0, x.1, x.2)) result (offers.origin (data_at fields.entry)) }
 {
     let id = provider_id(alloc, fields, Field::ProviderId)?;
-    let (id, owner) = and(id, some_address(alloc, fields, Field::Owner))?;
-    let sender = sender_or(alloc, &owner, fields);
-    let ((id, owner), sender) = and((id, owner), sender)?;
+    let owner = some_address(alloc, fields, Field::Owner)?;
+    let sender = sender_or(alloc, &owner, fields)?;
     Ok((id, owner, sender))
 }
 
@@ -126,11 +125,10 @@ fn kinds(fields: FieldsRef<'_>) -> Result<bool, RecordFault>
 fn offer(alloc: Global, fields: FieldsRef<'_>) -> Result<Offer, RecordFault>
     ensures { Gives (λ o. o) result (offers.by_groups (data_at fields.entry)) }
 {
-    let read = recipient(alloc, fields)?;
-    let read = and(read, origin(alloc, fields))?;
-    let (read, _) = and(read, kinds(fields))?;
-    let (read, (secret, perms)) = and(read, access(alloc, fields))?;
-    let ((with, name), (id, owner, sender)) = read;
+    let (with, name) = recipient(alloc, fields)?;
+    let (id, owner, sender) = origin(alloc, fields)?;
+    kinds(fields)?;
+    let (secret, perms) = access(alloc, fields)?;
     Ok(Offer {
         with,
         name,

@@ -3,7 +3,6 @@ use ocm_entry::Cmd;
 use ocm_types::Name;
 
 /// What a server says of itself: the document of its discovery end point (Open Cloud Mesh API 1.1).
-#[derive(Debug, PartialEq, Eq)]
 pub struct Discovery {
     /// Whether the server takes part: `enabled`.
     pub enabled: bool,
@@ -28,7 +27,6 @@ impl Drop for Discovery {
 }
 
 /// Why a server refused a request (Open Cloud Mesh API 1.1).
-#[derive(Debug, PartialEq, Eq)]
 pub struct ErrorBody {
     /// The reason: `message`, a text of at most 1,024 bytes.
     pub message: Text,
@@ -46,7 +44,6 @@ impl Drop for ErrorBody {
 }
 
 /// What was wrong with a field of a request.
-#[derive(Debug, PartialEq, Eq)]
 pub struct FieldNote {
     /// The reason: `message`, a text of at most 1,024 bytes.
     pub message: Text,
@@ -64,7 +61,7 @@ impl Drop for FieldNote {
 }
 
 /// What a local user or the administrator asks.
-#[derive(Debug, Drop, PartialEq, Eq)]
+#[derive(Debug, Drop)]
 pub enum LocalAsk {
     /// A new user of this name.
     User(Name),

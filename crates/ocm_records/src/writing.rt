@@ -27,8 +27,8 @@ pub fn bytes_of(alloc: Global, value: &Value) -> Result<Bytes, NoMemory>
     Ok(Bytes::from_vec(text))
 }
 
-/// Adds a word, where its right is held.
-fn push_word(
+/// Adds a word to a list, where it is held.
+pub fn push_word(
     alloc: Global,
     words: &mut Vec<Value>,
     held: bool,
@@ -88,6 +88,23 @@ pub fn object_of(
             Err(fault)
         }
     }
+}
+
+/// Adds an object as a member: these members, where all were added.
+pub fn put_object(
+    members: &mut Map<String, Value>,
+    alloc: Global,
+    key: &str,
+    inner: Map<String, Value>,
+    added: Result<(), NoMemory>,
+) -> Result<(), NoMemory>
+    ensures members { OnOk result (members_view members.new.entries
+        ≡ with_member key.now (object (members_view inner.entries)) (members_view members.old.entries)) }
+    ensures added { OnOk result (IsOk added) }
+{
+    let value = object_of(inner, added)?;
+    put(members, alloc, key, value)?;
+    Ok(())
 }
 
 /// Adds a text as a member.

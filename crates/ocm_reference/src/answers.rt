@@ -1,5 +1,5 @@
 ghost use Rattle.std.specs.Prelude.{◌≡◌, ◌-◌, ◌<◌, ◌^◌, IfOk, IsTrue, None, Some, false, if◌then◌else◌, length, nat_eq, option_and_then, option_copied};
-ghost use Rattle.ocm_base.specs.Hex.{hex};
+ghost use Rattle.ocm_texts.specs.Hex.{hex};
 ghost use Rattle.ocm_entry.specs.Proper.{is_short};
 ghost use Rattle.ocm_entry.specs.declared.asks.Ask.TheVariants as asks;
 ghost use Rattle.ocm_entry.specs.declared.rows.Share.{Share as ShareRow};

@@ -5,10 +5,12 @@ use std::alloc::Global;
 /// What the plain program and the fast server replied, and whether the fast one changes something by it. None where
 /// memory was wanting, or for a reply that no ask gets.
 pub fn both_told(alloc: Global, plain: &Reply, fast: &Reply, changes: bool) -> Option<String> {
-    if plain != fast {
-        return format!(in alloc; "DIFFER {plain:?} {fast:?}").ok();
-    }
+    let plain = reply_told(alloc, plain)?;
     let told = reply_told(alloc, fast)?;
+    if plain != told {
+        return format!(in alloc; "DIFFER {plain} {told}").ok();
+    }
+    drop(plain);
     if changes {
         let kept = format!(in alloc; "kept {}", told.as_str());
         drop(told);
@@ -18,6 +20,7 @@ pub fn both_told(alloc: Global, plain: &Reply, fast: &Reply, changes: bool) -> O
     }
 }
 
+/// All that a reply says to an ask of these, so that two with the same text are the same.
 fn reply_told(alloc: Global, reply: &Reply) -> Option<String> {
     match reply {
         Reply::Key { key } => format!(in alloc; "Key {}", key.as_str()).ok(),

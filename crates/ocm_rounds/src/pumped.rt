@@ -1,5 +1,5 @@
 /// What a round of delivery came to.
-#[derive(Clone, Copy, Debug, PartialEq, Eq)]
+#[derive(Clone, Copy)]
 pub struct Pumped {
     /// How many messages were due. The count stands still at its type's end.
     pub tried: u32,

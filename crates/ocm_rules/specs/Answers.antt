@@ -1,6 +1,6 @@
 use Rattle.std.specs.Prelude.{ℕ, ◌+◌, List, [], ◌∷◌, ◌++◌, length, map, filter_map, count_by, nat_eq, nat_lt, Bool, true, false, not, ◌&&◌, ◌||◌, if◌then◌else◌, Option, Some, None, is_some, option_map, option_and_then}
 use Rattle.std.specs.Option.{option_map_or}
-use Rattle.ocm_base.specs.Hex.{hex}
+use Rattle.ocm_texts.specs.Hex.{hex}
 use Rattle.ocm_limits.specs.Limits.{most_changes, most_pending, most_records, most_requests, most_restrictions, most_shares, most_users}
 use Rattle.ocm_path.specs.Paths.{Segments, is_root}
 use Rattle.ocm_types.specs.declared.addresses.Address.{Address}

@@ -1,8 +1,8 @@
 use Rattle.std.specs.Prelude.{ℕ, ◌+◌, List, [], ◌∷◌, ◌++◌, length, map, reverse, nat_eq, nat_le, Bool, false, not, ◌&&◌, if◌then◌else◌, Option, Some, None, is_some, unwrap_or, option_map, option_and_then}
 use Rattle.std.specs.List.{list_any, list_all}
 use Rattle.std.specs.Option.{option_map_or}
-use Rattle.ocm_base.specs.Hex.{hex}
-use Rattle.ocm_base.specs.Decimal.{decimal_of}
+use Rattle.ocm_texts.specs.Hex.{hex}
+use Rattle.ocm_texts.specs.Decimal.{decimal_of}
 use Rattle.ocm_types.specs.declared.addresses.Address.{Address}
 use Rattle.ocm_types.specs.declared.letters.Notice.TheVariants as notices
 use Rattle.ocm_types.specs.declared.rights.Rights.{Rights}

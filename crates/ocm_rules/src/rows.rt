@@ -1,7 +1,7 @@
 ghost use Rattle.std.specs.Prelude.{◌≡◌, IfOk};
 
-use ocm_base::NoMemory;
 use ocm_entry::Share;
+use ocm_texts::NoMemory;
 use ocm_types::{Host, Letter, Offer, Perms, Phase};
 
 /// What a message is about. Of the messages about one thing, the later wait for the earlier.
@@ -16,7 +16,7 @@ pub enum Subject {
 }
 
 /// A message to another server. A server's messages are numbered from 1.
-#[derive(Debug, Drop, PartialEq, Eq)]
+#[derive(Drop)]
 pub struct Message {
     pub subject: Subject,
     /// The server that it is for.
@@ -41,14 +41,13 @@ impl Message {
 
 /// What a guest was told of the permissions of a received share: the number of the last change, 0
 /// before the first, and the permissions.
-#[derive(Clone, Copy, Debug, PartialEq, Eq)]
+#[derive(Clone, Copy)]
 pub struct Told {
     pub serial: u32,
     pub perms: Perms,
 }
 
 /// A share with what became of it.
-#[derive(Debug, PartialEq, Eq)]
 pub struct ShareRow {
     pub share: Share,
     /// Those of its last limit, else what was granted.
@@ -71,7 +70,6 @@ impl Drop for ShareRow {
 }
 
 /// A received offer with what became of it.
-#[derive(Debug, PartialEq, Eq)]
 pub struct ReceivedRow {
     pub offer: Offer,
     pub phase: Phase,
@@ -89,7 +87,6 @@ impl Drop for ReceivedRow {
 }
 
 /// A message with whether it is settled.
-#[derive(Debug, PartialEq, Eq)]
 pub struct SentRow {
     pub message: Message,
     pub settled: bool,

@@ -1,8 +1,8 @@
 -- The words of a line, what a word of each kind is read as, and how the words of a line follow one another.
 use Rattle.std.specs.Prelude.{ℕ, ◌+◌, List, [], ◌∷◌, length, take, drop, nat_eq, nat_lt, nat_le, ◌&&◌, Bool, true, false, Option, Some, None, is_none, position, find, bytes_eq, codes, option_map, option_and_then, if◌then◌else◌}
 use Rattle.std.specs.Str.{is_utf8}
-use Rattle.ocm_base.specs.Decimal.{decimal_of}
-use Rattle.ocm_base.specs.Hex.{hex_text_of}
+use Rattle.ocm_texts.specs.Decimal.{decimal_of}
+use Rattle.ocm_texts.specs.Hex.{hex_text_of}
 use Rattle.ocm_limits.specs.Limits.{most_servers}
 use Rattle.ocm_types.specs.Texts as texts
 use Rattle.ocm_types.specs.Draws.{fresh_of}

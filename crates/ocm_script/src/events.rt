@@ -10,7 +10,6 @@ use ocm_types::{Address, Fresh, Host, Name, Notice, Offer, Perms, Secret};
 use std::alloc::Global;
 
 /// What a line of a script says. In each but the first, `host` names the server that it is about.
-#[derive(Debug, PartialEq, Eq)]
 pub enum Event {
     /// An empty line or a comment: nothing happens.
     Quiet,
@@ -168,7 +167,6 @@ impl Drop for Event {
 }
 
 /// What a file is to hold.
-#[derive(Debug, PartialEq, Eq)]
 pub enum Body {
     /// These bytes.
     Given(Bytes),

@@ -1,5 +1,5 @@
 ghost use Rattle.std.specs.Prelude.{◌≡◌, Some, IfOk, IsTrue, not, is_none, position, bytes_eq, option_copied};
-ghost use Rattle.ocm_base.specs.Hex.{hex_text_of};
+ghost use Rattle.ocm_texts.specs.Hex.{hex_text_of};
 ghost use Rattle.ocm_entry.specs.Proper.{is_short};
 ghost use Rattle.ocm_script.specs.Words as words;
 ghost use Rattle.ocm_script.specs.Gives.{Gives};

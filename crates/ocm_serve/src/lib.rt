@@ -1,19 +1,10 @@
-//! A running server: what it takes from the system, its workers, its store from the disk to the disk, and what it tells an
-//! administrator.
-//!
-//! No line that it writes holds a key, a secret or anything of a message.
+//! A running server: its workers, and the whole of it by a plan, from what it takes from the system to its status.
 #![tactic(auto)]
 
-mod notes;
-mod openings;
 mod running;
-mod serving;
-mod told_disks;
 mod workers;
 
-pub use notes::Note;
-pub use openings::{Cause, OpenFault, Opening, StandIns};
+pub use ocm_serve_store::serve;
+pub use ocm_serve_system::{Cause, Note, OpenFault, Opening, StandIns, ToldDisk};
 pub use running::run;
-pub use serving::serve;
-pub use told_disks::ToldDisk;
 pub use workers::{NetWorker, workers_for};

@@ -1,14 +1,16 @@
 //! A server run by a plan, with what an administrator is told.
-ghost use Rattle.std.specs.Prelude.{◌≤◌};
-ghost use Rattle.ocm_serve.specs.Runs.{IsStatus};
+ghost use Rattle.std.specs.Prelude.{◌≤◌, ◌<◌, vec_len};
+ghost use Rattle.ocm_serve_system.specs.Statuses.{IsStatus};
 
-use crate::notes::Note;
-use crate::openings::{OpenFault, Opening};
-use crate::serving::serve;
-use crate::told_disks::ToldDisk;
 use crate::workers::{dismiss, workers_for};
+use ocm_base::Clock;
+use ocm_disk::Disk;
 use ocm_options::Plan;
-use ocm_server::served_status;
+use ocm_pump::Dial;
+use ocm_serve_store::serve;
+use ocm_serve_system::{OpenFault, Opening, ToldDisk, tell_end, tell_fault, tell_place};
+use ocm_server::{Door, Worker};
+use ocm_store::Store;
 use std::alloc::Global;
 use std::fs::File;
 use std::io::Eprint;
@@ -36,24 +38,37 @@ pub fn run<
         Ok(opening) => opening,
         Err(fault) => return tell_fault(rt, fault),
     };
-    let Ok(mut workers) = workers_for(rt, alloc, plan, &opening) else {
+    let Ok(workers) = workers_for(rt, alloc, plan, &opening) else {
         drop(opening);
         return tell_fault(rt, OpenFault::NoMemory);
     };
-    let address = opening.entrance.address();
-    let _ = eprintln!(rt; "ocmd: listening on {address}");
-    let Opening { disk, draw_key, .. } = opening;
-    let disk = ToldDisk::new(rt, disk);
-    let (served, _disk) = serve(rt, alloc, plan, &mut workers, disk, draw_key);
-    dismiss(workers);
-    let _ = eprintln!(rt; "ocmd: {}", Note(&served));
-    served_status(&served)
+    tell_place(rt, &opening);
+    let (disk, draw_key) = opening.into_disk();
+    run_workers(rt, alloc, plan, workers, ToldDisk::new(rt, disk), draw_key)
 }
 
-/// Tells why a server cannot begin, and answers the status.
-fn tell_fault<R: Eprint>(rt: &R, fault: OpenFault) -> u8
+/// Serves the store of a disk by workers, tells how that ended, and answers the status.
+fn run_workers<
+    D: Disk + Send,
+    L: Door + Send,
+    N: Dial + Send,
+    K: Clock + Send,
+    R: Threads + Wait + Sync + Eprint,
+>(
+    rt: &R,
+    alloc: Global,
+    plan: &Plan,
+    mut workers: Vec<Worker<Store<D>, L, N, K>>,
+    disk: D,
+    draw_key: [u8; 32],
+) -> u8
+where
+    L::Conn: Send,
+    requires some { 0 < vec_len workers }
     ensures { IsStatus result }
 {
-    let _ = eprintln!(rt; "ocmd: {fault}");
-    fault.status()
+    let (served, disk) = serve(rt, alloc, plan, &mut workers, disk, draw_key);
+    drop(disk);
+    dismiss(workers);
+    tell_end(rt, served)
 }

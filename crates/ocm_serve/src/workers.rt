@@ -1,13 +1,13 @@
 //! The workers of a plan.
 ghost use Rattle.std.specs.Prelude.{◌≡◌, ◌+◌, None, All, IfOk, OnOk, vec_len};
 
-use crate::openings::Opening;
 use ocm_base::{Clock, StdClock};
 use ocm_connections::Draw;
 use ocm_entry::Object;
 use ocm_network::{TcpDial, TcpDoor};
 use ocm_options::Plan;
 use ocm_pump::Dial;
+use ocm_serve_system::Opening;
 use ocm_server::{Door, Worker};
 use ocm_sockets::Pauses;
 use std::alloc::{AllocError, Global};

@@ -8,9 +8,10 @@
 //! | `each source COUNT; PAGES; WORDS; DISK; WORKER` | a run for each number from 1 to COUNT, in which the call of this number fails at the source of the first connection; with `sink`, at its sink |
 //! | `talk DISK; LIMIT CLOCKS PIECE FAILS ROOM; BYTES` | a connection that is served alone, at a turnstile that ends at `LIMIT` calls, by a clock that gives the values `CLOCKS`, `,` between two |
 //!
-//! The words begin with `serve`. A disk is `- FUSE` without bytes, or `DIGITS*COUNT*DIGITS FUSE` with so many zeros between
-//! the two. After `FUSE` device calls it is burnt out; `-` is none. With a further word `SYNCS` it sets the gate `a` after so
-//! many syncs, each with a write before it.
+//! The words are `serve --host HOST --disk DISK --admin ADMIN`, and other options behind them, which the program's own start
+//! reads. A disk is `- FUSE` without bytes, or `DIGITS*COUNT*DIGITS FUSE` with so many zeros between the two. After `FUSE`
+//! device calls it is burnt out; `-` is none. With a further word `SYNCS` it sets the gate `a` after so many syncs, each with a
+//! write before it.
 //!
 //! A worker is `FAILS`, and behind it ` | conn BYTES` for each connection of its door and ` | reply BYTES` for each
 //! reply to its dial. The door fails at the call of the number `FAILS`, counted from 1; so does the dial where its
@@ -32,26 +33,16 @@
 //! the clocks of workers give 0.
 #![tactic(auto)]
 
-mod backs;
-mod conns;
-mod disks;
-mod doors;
-mod gates;
-mod names;
-mod pages;
-mod plans;
 mod runs;
 mod series;
+mod stores;
 mod talks;
-mod texts;
 mod workers;
 
-use crate::gates::Gates;
-use crate::names::{add_name, spelled};
 use crate::runs::run_told;
 use crate::series::series_told;
 use crate::talks::talk_told;
-use crate::texts::{cut, line_of};
+use ocm_serve_rows::{Gates, add_name, cut, line_of, spelled};
 use std::alloc::Global;
 use std::io;
 use std::sync::Wait;

@@ -1,16 +1,12 @@
 //! Runs of a server from its disk to its disk.
 ghost use Rattle.std.specs.Prelude.{◌<◌, length};
 
-use crate::backs::{add_worked, served_told};
-use crate::conns::Manner;
-use crate::disks::{disk_of, kept_told};
-use crate::gates::Gates;
-use crate::plans::plan_of;
-use crate::texts::{add, cut};
-use crate::workers::{Hand, add_workers};
+use crate::stores::kept_told;
+use crate::workers::{Hand, add_worked, add_workers};
 use ocm_disk::GateDisk;
 use ocm_options::Plan;
-use ocm_serve::serve;
+use ocm_serve_rows::{Gates, Manner, add, cut, disk_of, plan_of, served_told};
+use ocm_serve_store::serve;
 use ocm_server::Served;
 use std::alloc::Global;
 use std::sync::Wait;

@@ -3,14 +3,11 @@ ghost use Rattle.std.specs.Prelude.{List, []};
 ghost use Rattle.ocm_entry.specs.declared.entries.Entry.{Entry};
 ghost use Rattle.ocm_store.specs.Stores.{IsLegalUnder, Stands, terms_of};
 
-use crate::conns::{Manner, OPEN, conn_of};
-use crate::disks::{disk_of, host, loaded};
-use crate::gates::Gates;
-use crate::pages::ended_told;
-use crate::texts::cut;
-use ocm_base::{List, MemClock};
+use crate::stores::{host, loaded};
+use ocm_base::MemClock;
 use ocm_dav::Config;
 use ocm_disk::{Disk, GateDisk};
+use ocm_serve_rows::{Gates, Manner, OPEN, clock_of, conn_of, cut, disk_of, ended_told};
 use ocm_server::{Draw, Ended, GateConn, serve_conn};
 use ocm_store::Store;
 use ocm_turn::Turnstile;
@@ -26,7 +23,7 @@ pub fn talk_told<R: Wait>(rt: &R, alloc: Global, gates: &Gates, row: &str) -> Op
     let (limit, words) = cut(words, " ");
     let (clocks, words) = cut(words, " ");
     let limit = limit.parse().ok()?;
-    let conn = conn_of(alloc, gates, OPEN, bytes, manner_of(words)?);
+    let conn = conn_of(alloc, gates, OPEN, bytes, Manner::of(words)?);
     match conn.zip(clock_of(alloc, clocks)) {
         Some((mut conn, mut clock)) => {
             let store = disk_of(alloc, gates, disk);
@@ -47,39 +44,6 @@ fn calls_told(alloc: Global, ended: Option<(Ended, u64)>, written: &[u8]) -> Opt
     let line = format!(in alloc; "{calls} calls, {}", told.as_str());
     drop(told);
     line.ok()
-}
-
-/// What `PIECE FAILS ROOM` say of a connection. It takes 7 bytes a write.
-fn manner_of(words: &str) -> Option<Manner> {
-    let (piece, words) = cut(words, " ");
-    let (fails, room) = cut(words, " ");
-    Some(Manner {
-        gives: piece.parse().ok()?,
-        takes: 7,
-        source: fails.parse().ok()?,
-        sink: 0,
-        room: room.parse().ok()?,
-    })
-}
-
-/// A clock that gives these values, with `,` between two.
-fn clock_of(alloc: Global, words: &str) -> Option<MemClock> {
-    let mut values = List::new(alloc);
-    add_values(&mut values, words).and(Some(MemClock::new(values)))
-}
-
-fn add_values(values: &mut List<u64>, words: &str) -> Option<()> {
-    for word in words.split(',') {
-        add_value(values, word)?;
-    }
-    Some(())
-}
-
-fn add_value(values: &mut List<u64>, word: &str) -> Option<()> {
-    match word.parse() {
-        Ok(value) => values.push(value).ok(),
-        Err(_) => None,
-    }
 }
 
 fn config(alloc: Global) -> Option<Config> {

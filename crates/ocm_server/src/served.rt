@@ -4,7 +4,7 @@ ghost use Rattle.ocm_server.specs.Statuses.{status_of};
 use ocm_base::Bytes;
 
 /// What a running server came to.
-#[derive(Debug, Drop, PartialEq, Eq)]
+#[derive(Drop)]
 pub enum Served {
     /// Every door came to its end. How many calls the server answered, and how many of these its workers made.
     Ended { calls: u64, own: u64 },

@@ -19,7 +19,7 @@ use std::sync::Wait;
 use std::thread::{Threads, for_each_mut};
 
 /// How a worker ended.
-#[derive(Clone, Copy, Debug, PartialEq, Eq)]
+#[derive(Clone, Copy)]
 pub enum Rounds {
     /// The door came to its end.
     Ended,

@@ -24,7 +24,7 @@ const PLACES: usize = 16_384;
 const QUEUE: i32 = 4_096;
 
 /// How many connections are served, and how long they may rest.
-#[derive(Clone, Copy, Debug)]
+#[derive(Clone, Copy)]
 pub struct Limits {
     /// How many connections are served in all, 0 for no end.
     pub connections: u64,

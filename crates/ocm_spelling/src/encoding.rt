@@ -13,7 +13,7 @@ use crate::appending::{
 };
 use ocm_base::{Bytes, NoMemory};
 use ocm_entry::{Ask, Cmd, Method};
-use ocm_limits::MOST_FILE_BYTES;
+use ocm_limits::{MOST_ASKED_PATH_BYTES, MOST_FILE_BYTES};
 use ocm_path::Path;
 use ocm_types::{Address, Fresh, Notice, Offer, Perms, ProviderId, Secret};
 use std::alloc::Global;
@@ -210,7 +210,7 @@ fn add_carry(
 fn is_short(path: &Path) -> bool
     ensures { result ≡ proper.is_short path.now }
 {
-    path.text_len() <= 1024
+    path.text_len() <= MOST_ASKED_PATH_BYTES
 }
 
 fn has_kept_body(method: Method, body: &Bytes) -> bool

@@ -6,7 +6,7 @@ use Rattle.ocm_disk.specs.Disk.{LeavesOnly}
 use Rattle.ocm_disk.specs.declared.disk.Disk.{Ghosts}
 use Rattle.ocm_entry.specs.declared.asks.Ask.{Ask}
 use Rattle.ocm_entry.specs.declared.entries.Entry.{Entry}
-use Rattle.ocm_history.specs.declared.drafts.Draft.{Draft}
+use Rattle.ocm_history_kept.specs.declared.drafts.Draft.{Draft}
 use Rattle.ocm_history.specs.declared.histories.History.{History}
 use Rattle.ocm_history.specs.Changes.{FitsInto, IsChange}
 use Rattle.ocm_history.specs.Histories.{home_of}

@@ -31,8 +31,8 @@ use Rattle.ocm_journal.specs.Openings.{IsMadeAs, Opens, StaysAsItOpens, opening}
 use Rattle.ocm_journal.specs.Openings as openings
 use Rattle.ocm_journal.specs.Passing as passing
 use Rattle.ocm_rules.specs.History.{IsLegal}
-use Rattle.ocm_history.specs.declared.faults.ReplayFault.{ReplayFault}
-use Rattle.ocm_history.specs.declared.faults.ReplayFault.TheVariants as replays
+use Rattle.ocm_history_kept.specs.declared.faults.ReplayFault.{ReplayFault}
+use Rattle.ocm_history_kept.specs.declared.faults.ReplayFault.TheVariants as replays
 use Rattle.ocm_history.specs.declared.histories.History.{History}
 use Rattle.ocm_history.specs.Histories.{IsOf, home_of}
 use Rattle.ocm_history.specs.Replays.{IsMemoryOf, IsReplayFault}

@@ -4,7 +4,7 @@ use Rattle.std.specs.Prelude.{if◌then◌else◌, IsSome}
 use Rattle.std.specs.Result.{result_ok}
 use Rattle.std.specs.Option.{option_map_or}
 use Rattle.std.specs.Cmp.Lexicographic.{pointwise, bytes_decides}
-use Rattle.ocm_base.specs.Hex.{AreBytes}
+use Rattle.ocm_texts.specs.Hex.{AreBytes}
 use Rattle.ocm_entry.specs.declared.entries.Entry.{Entry}
 use Rattle.ocm_image.specs.declared.blanks.Blank.{Blank}
 use Rattle.ocm_image.specs.declared.readings.Area.{Area}

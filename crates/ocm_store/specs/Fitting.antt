@@ -2,7 +2,7 @@
 use Rattle.std.proofs.Common.{inl, inr, ℕ, ◌+◌, List, [], ◌∷◌, ◌++◌, length, sym, subst, Bool, true, false, refl, Option, Some, None}
 use Rattle.std.specs.Prelude.{⊤, if◌then◌else◌, ◌&&◌, ◌||◌, not, nat_lt, is_some}
 use Rattle.std.specs.Option.{option_map_or}
-use Rattle.ocm_base.specs.Hex.{hex}
+use Rattle.ocm_texts.specs.Hex.{hex}
 use Rattle.ocm_limits.specs.Limits.{most_pending, most_records, most_requests, most_shares, most_users}
 use Rattle.ocm_path.specs.Paths.{Segments, is_root}
 use Rattle.ocm_types.specs.declared.addresses.Address.{Address}

@@ -4,8 +4,8 @@ use Rattle.std.specs.Result.{result_ok}
 use Rattle.std.specs.Option.{option_map_or}
 use Rattle.ocm_base.specs.Outside.{raised}
 use Rattle.ocm_entry.specs.declared.entries.Entry.{Entry}
-use Rattle.ocm_history.specs.declared.faults.ReplayFault.{ReplayFault}
-use Rattle.ocm_history.specs.declared.faults.ReplayFault.TheVariants as replays
+use Rattle.ocm_history_kept.specs.declared.faults.ReplayFault.{ReplayFault}
+use Rattle.ocm_history_kept.specs.declared.faults.ReplayFault.TheVariants as replays
 use Rattle.ocm_image.specs.declared.readings.Image.{Image}
 use Rattle.ocm_image.specs.declared.readings.RawRecord.{RawRecord}
 use Rattle.ocm_image.specs.Blank.{IsBlank}

@@ -1,6 +1,6 @@
 //! What follows from what a store stands for, each law as the contract of a function that does nothing.
 ghost use Rattle.std.specs.Prelude.{◌≡◌, [], ℕ, List, Ok, Err};
-ghost use Rattle.ocm_base.specs.Hex.{AreBytes};
+ghost use Rattle.ocm_texts.specs.Hex.{AreBytes};
 ghost use Rattle.ocm_entry.specs.declared.entries.Entry.{Entry};
 ghost use Rattle.ocm_image.specs.Layout.{IsImage};
 ghost use Rattle.ocm_journal.specs.Openings.{StaysAsItOpens};

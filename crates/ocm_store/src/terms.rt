@@ -2,7 +2,6 @@ use ocm_types::Host;
 
 /// What never changes of a store: whose it is, and how many bytes each of the two areas of its journal
 /// has. On these it depends which replies are legal.
-#[derive(Debug, PartialEq, Eq)]
 pub struct Terms {
     pub host: Host,
     pub area: u64,

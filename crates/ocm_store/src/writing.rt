@@ -7,7 +7,7 @@ ghost use Rattle.ocm_core.specs.Standing.{IsPlanned};
 ghost use Rattle.ocm_image.specs.Layout.{AreRecords, blocks_size};
 ghost use Rattle.ocm_journal.specs.Journals.{HasRoom, IsOldOrNew, StandsFor, area_of, disk_of, form_of};
 ghost use Rattle.ocm_law_sessions.specs.Sessions.{heard};
-ghost use Rattle.ocm_history.specs.declared.drafts.Draft.{Draft};
+ghost use Rattle.ocm_history_kept.specs.declared.drafts.Draft.{Draft};
 ghost use Rattle.ocm_history.specs.Changes.{FitsInto, IsChange};
 ghost use Rattle.ocm_store.specs.Acts.{IsWithOrWithout, Spends, SpendsNone};
 ghost use Rattle.ocm_store.specs.Faults.{HasCount, IsNoDiskFault, stops};

@@ -5,3 +5,4 @@ pub mod Received
 pub mod Tellings
 pub mod Sending
 pub mod Counted
+pub mod Outcomes

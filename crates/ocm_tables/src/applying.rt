@@ -32,8 +32,7 @@ impl Tables {
         ensures messages { OnOk result (messages ≤ self.new.room.messages) }
     {
         self.outbox.room(messages)?;
-        self.room_for(change)?;
-        Ok(())
+        self.room_for(change)
     }
 
     /// Takes the memory that a change needs in its table. The lists stay.
@@ -84,8 +83,7 @@ impl Tables {
         ensures messages { self.old.room.messages ≤ self.new.room.messages }
     {
         self.inbox.room()?;
-        self.board.room()?;
-        Ok(())
+        self.board.room()
     }
 
     /// Makes a change and sends its messages. It takes no memory.
@@ -246,7 +244,7 @@ impl Tables {
         self.board.add(perms);
     }
 
-    fn set_phase(&mut self, number: u32, phase: Phase)
+    pub(crate) fn set_phase(&mut self, number: u32, phase: Phase)
         requires { IsRecord self.old.state number }
         ensures state { self.new.state ≡ acted self.old.state (changes.SetPhase number phase) }
         ensures entries { self.new.entries ≡ self.old.entries }
@@ -267,7 +265,7 @@ impl Tables {
         let _number = self.inbox.ask(request);
     }
 
-    fn set_state(&mut self, request: u32, state: RequestPhase)
+    pub(crate) fn set_state(&mut self, request: u32, state: RequestPhase)
         requires { IsRequest self.old.state request }
         ensures state { self.new.state ≡ with_outcome self.old.state (outcomes.SetState request state) }
         ensures entries { self.new.entries ≡ self.old.entries }
@@ -305,11 +303,7 @@ impl Tables {
         ensures messages { self.old.room.messages ≤ self.new.room.messages }
     {
         self.outbox.settle(number);
-        match outcome {
-            Outcome::Nothing => {}
-            Outcome::SetPhase { number, phase } => self.set_phase(number, phase),
-            Outcome::SetState { request, state } => self.set_state(request, state),
-        }
+        outcome.act(self);
     }
 
     /// Sends messages, behind those that were sent.

@@ -1,3 +1,4 @@
+use crate::tables::Tables;
 use ocm_base::List;
 use ocm_chain::PlannedShare;
 use ocm_entry::{Place, Request, Standing};
@@ -7,7 +8,6 @@ use ocm_types::{Perms, Phase, RequestPhase};
 use ocm_users::PlannedUser;
 
 /// What an answer to a message does besides settling it.
-#[derive(Drop)]
 pub enum Outcome {
     /// Nothing more.
     Nothing,
@@ -15,6 +15,42 @@ pub enum Outcome {
     SetPhase { number: u32, phase: Phase },
     /// The request of this number has this state.
     SetState { request: u32, state: RequestPhase },
+}
+
+impl Drop for Outcome {
+    fn drop(self) {
+        match self {
+            Outcome::Nothing => {}
+            Outcome::SetPhase {
+                number: _,
+                phase: _,
+            } => {}
+            Outcome::SetState {
+                request: _,
+                state: _,
+            } => {}
+        }
+    }
+}
+
+impl Outcome {
+    ghost use Rattle.std.specs.Prelude.{◌≡◌, ◌≤◌};
+    ghost use Rattle.ocm_tables.specs.Changes.{FitsOutcome, with_outcome};
+
+    /// Does in the tables what an answer does besides settling its message.
+    pub(crate) fn act(self, tables: &mut Tables)
+        requires { FitsOutcome tables.old.state self }
+        ensures state { tables.new.state ≡ with_outcome tables.old.state self }
+        ensures entries { tables.new.entries ≡ tables.old.entries }
+        ensures origins { tables.new.origins ≡ tables.old.origins }
+        ensures messages { tables.old.room.messages ≤ tables.new.room.messages }
+    {
+        match self {
+            Outcome::Nothing => {}
+            Outcome::SetPhase { number, phase } => tables.set_phase(number, phase),
+            Outcome::SetState { request, state } => tables.set_state(request, state),
+        }
+    }
 }
 
 /// What an ask changes in the tables, its messages aside. All memory that a change holds was taken when

@@ -4,7 +4,7 @@
 ghost use Rattle.std.specs.Prelude.{◌≡◌, ◌++◌, ◌∷◌, map, IfOk, OnOk};
 ghost use Rattle.std.specs.Fmt.{decimal};
 ghost use Rattle.std.specs.List.{flat_map};
-ghost use Rattle.ocm_base.specs.Hex.{hex};
+ghost use Rattle.ocm_texts.specs.Hex.{hex};
 ghost use Rattle.ocm_path.specs.Escapes.{escape};
 ghost use Rattle.ocm_transcript.specs.Items.{item_text, listing_text};
 ghost use Rattle.ocm_transcript.specs.Texts as texts;

@@ -2,7 +2,6 @@ use Rattle.std.proofs.Common.{◌≡◌, ◌≢◌, ℕ, List, [], ◌∷◌, �
 use Rattle.std.specs.Prelude.{Option, Some, None, filter, nat_eq, if◌then◌else◌}
 use Rattle.std.specs.Option.{option_or}
 use Rattle.std.proofs.lemmas.Bool.Decides.{nat_tests}
-use Rattle.std.proofs.lemmas.List.{length-map}
 use Rattle.ocm_entry.specs.declared.rows.Place.{Place}
 use Rattle.ocm_entry.specs.declared.rows.Standing.{Standing}
 use Rattle.ocm_entry.specs.declared.rows.Node.{Node}
@@ -15,7 +14,7 @@ use Rattle.ocm_rules.proofs.Places.{same_place-refl, same_place-equal}
 use Rattle.ocm_rules.proofs.Nodes.{by_place, copies-one}
 use Rattle.ocm_rules.proofs.Once.{once-carried, once-filter, once-with_node, other-way}
 use Rattle.ocm_tree.proofs.Once.{once-middle}
-use Rattle.ocm_tree.proofs.OriginLists.{origins-where, origins-append, origins-copied, origins-with, numbers_with}
+use Rattle.ocm_tree.proofs.OriginLists.{origins-where, origins-append, origins-copied, origins-with, numbers_with, length-copies}
 use Rattle.ocm_tree.proofs.Parted.{length-where}
 
 -- what stands by the entry of this number, of nodes with these numbers
@@ -175,9 +174,6 @@ first-all (n ∷ ns) (m ∷ ms) k = by_test (first-all ns ms k) (nat_eq m k)
     by_test : first_by (λ x. true) ns ms k ≡ standing_by ns ms k → (q : Bool) → (if (q && true) then Some n.standing else first_by (λ x. true) ns ms k) ≡ (if q then Some n.standing else standing_by ns ms k)
     by_test rest true = refl
     by_test rest false = rest
-
-length-copies : (from to : Place) (ns : List Node) → length (copies from to ns) ≡ length (filter (λ (n : Node). is_at_or_above from n.place) ns)
-length-copies from to ns = length-map (filter (λ (n : Node). is_at_or_above from n.place) ns) (λ (n : Node). let copy : Node = record { place = moved from to n.place; standing = n.standing } in copy)
 
 -- as many numbers as nodes, once a node stands
 pub length-with : (ns : List Node) (ms : List ℕ) (node : Node) (number : ℕ) → length ns ≡ length ms → length (with_node ns node) ≡ length (numbers_with ns ms node.place number)

@@ -1,5 +1,5 @@
 use Rattle.std.proofs.Common.{◌≡◌, ℕ, zero, suc, ◌+◌, ◌-◌, ◌<◌, ◌≤◌, List, [], ◌∷◌, ◌++◌, length, drop, Bool, true, false, cond, not, refl, sym, ap, ◌∙◌, arith}
-use Rattle.std.specs.Prelude.{Option, Some, None, is_some, map, sum_by, if◌then◌else◌}
+use Rattle.std.specs.Prelude.{Option, Some, None, is_some, sum_by, if◌then◌else◌}
 use Rattle.std.proofs.lemmas.List.Sums.{sum_by-cons}
 use Rattle.std.proofs.lemmas.Bool.Decides.{nat_tests}
 use Rattle.ocm_path.specs.Paths.{Segments, is_root}
@@ -7,16 +7,15 @@ use Rattle.ocm_entry.specs.declared.rows.Place.{Place}
 use Rattle.ocm_entry.specs.declared.rows.Node.{Node}
 use Rattle.ocm_entry.specs.declared.rows.Standing.{Standing}
 use Rattle.ocm_entry.specs.declared.rows.Standing.TheVariants.{Collection}
-use Rattle.ocm_rules.specs.Files.{same_place, is_at_or_above, parent_of, with_node, with_roots, size_of, total_size, child_count}
-use Rattle.ocm_rules.specs.State.{node_at, EachOnce}
+use Rattle.ocm_rules.specs.Files.{same_place, is_at_or_above, parent_of, with_node, with_roots, child_count}
+use Rattle.ocm_rules.specs.State.{node_at}
 use Rattle.ocm_rules.proofs.Lists.{not_both}
-use Rattle.ocm_rules.proofs.Places.{same_place-equal, same_place-refl, same_place-Decides, above-split}
+use Rattle.ocm_rules.proofs.Places.{same_place-equal, same_place-Decides, above-split}
 use Rattle.ocm_rules.proofs.Nodes.{node_at-with_node, node_at-filter}
-use Rattle.ocm_tree.specs.Tables.{Slots, somes, slot_of, cleared, IsRooted, IsLeaf}
+use Rattle.ocm_tree.specs.Tables.{Slots, IsRooted, IsLeaf}
 use Rattle.ocm_tree.proofs.NodeLists.{child_count-cons}
-use Rattle.ocm_tree.proofs.Removed.{outside, child_count-inside, above-refl, above-child, above-parent}
+use Rattle.ocm_tree.proofs.Removed.{outside, above-child, above-parent}
 use Rattle.ocm_tree.proofs.Carried.{length-parent}
-use Rattle.ocm_tree.proofs.Slots.{leaf-tail, slot_of-cleared, slot_of-node_at}
 
 -- ---- nothing stands below a place in which nothing lies
 
@@ -122,92 +121,8 @@ rooted-outside there ns rooted = λ place stands.
     by_tests place away false false h s = s
     by_tests place away false true h s = absurd (not_both (is_at_or_above there place) (above-child there place h) away)
 
--- ---- sums once the node of a leaf is gone
-
--- what the node at a place weighs
-abbrev pub weight_at : (Node → ℕ) → Place → Option Standing → ℕ
-weight_at w there None = 0
-weight_at w there (Some standing) = w (record { place = there; standing = standing })
-
-filter-away : (w : Node → ℕ) (there : Place) (ns : List Node) → EachOnce ns → IsLeaf ns there → node_at ns there ≡ None → sum_by w (outside there ns) ≡ sum_by w ns
-filter-away w there [] once leaf e = refl
-filter-away w there (n ∷ ns) once leaf e = by_tests (filter-away w there ns once.1 (leaf-tail n ns there leaf)) (is_at_or_above there n.place) refl (same_place n.place there) refl e
-  where
-    by_tests : (node_at ns there ≡ None → sum_by w (outside there ns) ≡ sum_by w ns) → (b : Bool) → is_at_or_above there n.place ≡ b → (c : Bool) → same_place n.place there ≡ c
-        → (if c then Some n.standing else node_at ns there) ≡ None → sum_by w (if not b then n ∷ outside there ns else outside there ns) ≡ sum_by w (n ∷ ns)
-    by_tests rest b h true k f = absurd (cc)
-    by_tests rest true h false k f = absurd (not_both (same_place n.place there) ((same_place-Decides n.place there).1 (leaf n.place (rw (same_place-refl n.place) refl) h)) k)
-    by_tests rest false h false k f = let all = sum_by-cons w n ns in let more = sum_by-cons w n (outside there ns) in let r = rest f in omega (arith, all, more, r)
-
--- the sum of all is that of what stays and of the leaf
-pub sum-leaf : (w : Node → ℕ) (there : Place) (ns : List Node) → EachOnce ns → IsLeaf ns there → sum_by w (outside there ns) + weight_at w there (node_at ns there) ≡ sum_by w ns
-sum-leaf w there [] once leaf = refl
-sum-leaf w there (n ∷ ns) once leaf =
-    by_tests (sum-leaf w there ns once.1 (leaf-tail n ns there leaf)) (filter-away w there ns once.1 (leaf-tail n ns there leaf)) (is_at_or_above there n.place) refl (same_place n.place there) refl
-  where
-    by_tests : sum_by w (outside there ns) + weight_at w there (node_at ns there) ≡ sum_by w ns → (node_at ns there ≡ None → sum_by w (outside there ns) ≡ sum_by w ns)
-        → (b : Bool) → is_at_or_above there n.place ≡ b → (c : Bool) → same_place n.place there ≡ c
-        → sum_by w (if not b then n ∷ outside there ns else outside there ns) + weight_at w there (if c then Some n.standing else node_at ns there) ≡ sum_by w (n ∷ ns)
-    by_tests rest gone true h true k =
-        let same = same_place-equal n.place there k in
-        let nothing : node_at ns there ≡ None = rw (← same) once.0 in
-        let here : w (record { place = there; standing = n.standing }) ≡ w n = ap (λ (p : Place). w (record { place = p; standing = n.standing })) (sym same) in
-        let all = sum_by-cons w n ns in
-        let others = gone nothing in
-        omega (arith, all, others, here)
-    by_tests rest gone true h false k = absurd (not_both (same_place n.place there) ((same_place-Decides n.place there).1 (leaf n.place (rw (same_place-refl n.place) refl) h)) k)
-    by_tests rest gone false h true k = absurd (not_both (is_at_or_above there n.place) (ap (is_at_or_above there) (same_place-equal n.place there k) ∙ above-refl there) h)
-    by_tests rest gone false h false k = let all = sum_by-cons w n ns in let more = sum_by-cons w n (outside there ns) in omega (arith, all, more, rest)
-
--- ---- the table of what stays where the node of a leaf is gone
+-- ---- sums
 
 pub length-ones : (ns : List Node) → sum_by (λ n. 1) ns ≡ length ns
 length-ones [] = refl
 length-ones (n ∷ ns) = let rest = length-ones ns in let all = sum_by-cons (λ (m : Node). 1) n ns in omega (arith, rest, all)
-
--- there is one node less
-pub leaf-length : (there : Place) (ns : List Node) (standing : Standing) → EachOnce ns → IsLeaf ns there → node_at ns there ≡ Some standing → length (outside there ns) + 1 ≡ length ns
-leaf-length there ns standing once leaf e =
-    let sums : sum_by (λ n. 1) (outside there ns) + 1 ≡ sum_by (λ n. 1) ns = rw e at (sum-leaf (λ n. 1) there ns once leaf) in
-    let first = length-ones (outside there ns) in
-    let second = length-ones ns in
-    omega (arith, sums, first, second)
-
--- there are its bytes less
-pub leaf-size : (there : Place) (ns : List Node) (standing : Standing) → EachOnce ns → IsLeaf ns there → node_at ns there ≡ Some standing → total_size (outside there ns) + size_of standing ≡ total_size ns
-leaf-size there ns standing once leaf e = rw e at (sum-leaf (λ (n : Node). size_of n.standing) there ns once leaf)
-
--- there is one node less in its collection
-pub leaf-counts : (there : Place) (ns : List Node) (standing : Standing) (q : Place) → EachOnce ns → IsLeaf ns there → node_at ns there ≡ Some standing →
-    (if same_place there q then 0 else child_count ns q - (if same_place (parent_of there) q then 1 else 0)) ≡ child_count (outside there ns) q
-leaf-counts there ns standing q once leaf e = by_test (same_place there q) refl
-  where
-    by_test : (b : Bool) → same_place there q ≡ b → (if b then 0 else child_count ns q - (if same_place (parent_of there) q then 1 else 0)) ≡ child_count (outside there ns) q
-    by_test true h = sym (child_count-inside there ns q (ap (is_at_or_above there) (sym (same_place-equal there q h)) ∙ above-refl there))
-    by_test false h =
-        let sums : child_count (outside there ns) q + (if same_place (parent_of there) q then 1 else 0) ≡ child_count ns q = rw e at (sum-leaf (λ (n : Node). cond (same_place (parent_of n.place) q) 1 0) there ns once leaf) in
-        omega (arith, sums)
-
--- the slots that are found are those of what stays
-pub leaf-found : (there : Place) (slots : Slots) (q : Place) → IsLeaf (somes slots) there → cond (same_place there q) None (slot_of slots q) ≡ slot_of (map (cleared there) slots) q
-leaf-found there slots q leaf = by_tests (same_place there q) refl (is_at_or_above there q) refl (slot_of slots q) refl ∙ sym (slot_of-cleared there slots q)
-  where
-    by_tests : (b : Bool) → same_place there q ≡ b → (c : Bool) → is_at_or_above there q ≡ c → (o : Option ℕ) → slot_of slots q ≡ o → cond b None o ≡ (if c then None else o)
-    by_tests true h true k o e = refl
-    by_tests true h false k o e = absurd (not_both (is_at_or_above there q) (ap (is_at_or_above there) (sym (same_place-equal there q h)) ∙ above-refl there) k)
-    by_tests false h false k o e = refl
-    by_tests false h true k None e = refl
-    by_tests false h true k (Some i) e =
-        let same : q ≡ there = leaf q (sym (slot_of-node_at slots q) ∙ ap is_some e) k in
-        absurd (not_both (same_place there q) ((same_place-Decides there q).1 (sym same)) h)
-
--- nothing is gone where nothing stood
-pub outside-same : (there : Place) (ns : List Node) → IsLeaf ns there → node_at ns there ≡ None → outside there ns ≡ ns
-outside-same there [] leaf e = refl
-outside-same there (n ∷ ns) leaf e = by_tests (outside-same there ns (leaf-tail n ns there leaf)) (is_at_or_above there n.place) refl (same_place n.place there) refl e
-  where
-    by_tests : (node_at ns there ≡ None → outside there ns ≡ ns) → (b : Bool) → is_at_or_above there n.place ≡ b → (c : Bool) → same_place n.place there ≡ c
-        → (if c then Some n.standing else node_at ns there) ≡ None → (if not b then n ∷ outside there ns else outside there ns) ≡ n ∷ ns
-    by_tests rest b h true k f = absurd (cc)
-    by_tests rest true h false k f = absurd (not_both (same_place n.place there) ((same_place-Decides n.place there).1 (leaf n.place (rw (same_place-refl n.place) refl) h)) k)
-    by_tests rest false h false k f = ap (λ l. n ∷ l) (rest f)

@@ -1,3 +1,4 @@
+pub mod Got
 pub mod Once
 pub mod NodeLists
 pub mod IndexNumbers
@@ -8,7 +9,6 @@ pub mod Slots
 pub mod SlotLists
 pub mod Leaves
 pub mod TableKept
-pub mod LeafGone
 pub mod SlotGone
 pub mod Lone
 pub mod Numbered

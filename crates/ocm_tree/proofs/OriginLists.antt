@@ -9,7 +9,6 @@ use Rattle.ocm_tree.specs.Standings.{origins_of}
 use Rattle.ocm_tree.specs.Tables.{index_of}
 use Rattle.std.proofs.lemmas.List.{length-map}
 use Rattle.ocm_rules.proofs.Nodes.{by_place, copies-one}
-use Rattle.ocm_tree.proofs.Parted.{length-where}
 use Rattle.ocm_tree.proofs.IndexNumbers.{push-step, push-with_node}
 use Rattle.ocm_tree.proofs.Carried.{filter-both, filter-alike, and-true}
 
@@ -105,20 +104,9 @@ origins-moving from to os = filter-both (λ (o : Origin). not (is_at_or_above to
 pub origins-copying : (from to : Place) (os : List Origin) → filter (λ (o : Origin). not (is_at_or_above to o.place)) os ≡ filter (origin_stays from to false) os
 origins-copying from to os = filter-alike (λ (o : Origin). not (is_at_or_above to o.place)) (origin_stays from to false) (λ o. and-true (not (is_at_or_above to o.place))) os
 
--- the origins after a copy or move, where these are the numbers of what stayed
-pub origins-carried : (from to : Place) (moving : Bool) (ns : List Node) (ms kept : List ℕ) → length ns ≡ length ms → length (filter (stays from to moving) ns) ≡ length kept →
-    origins_of (filter (stays from to moving) ns) kept ≡ filter (origin_stays from to moving) (origins_of ns ms) →
-    origins_of (filter (stays from to moving) ns ++ copies from to ns) (kept ++ numbers_where (λ (n : Node). is_at_or_above from n.place) ns ms) ≡ filter (origin_stays from to moving) (origins_of ns ms) ++ copied from to (origins_of ns ms)
-origins-carried from to moving ns ms kept same left h =
-    origins-append (filter (stays from to moving) ns) (copies from to ns) kept (numbers_where (λ (n : Node). is_at_or_above from n.place) ns ms) left
-    ∙ (ap (λ os. os ++ origins_of (copies from to ns) (numbers_where (λ (n : Node). is_at_or_above from n.place) ns ms)) h
-    ∙ ap (λ os. filter (origin_stays from to moving) (origins_of ns ms) ++ os) (sym (origins-copied from to ns ms same)))
-
--- as many copies as numbers of them
-pub length-copied : (from to : Place) (ns : List Node) (ms : List ℕ) → length ns ≡ length ms → length (numbers_where (λ (n : Node). is_at_or_above from n.place) ns ms) ≡ length (copies from to ns)
-length-copied from to ns ms same =
-    length-where (λ (n : Node). is_at_or_above from n.place) ns ms same
-    ∙ sym (length-map (filter (λ (n : Node). is_at_or_above from n.place) ns) (λ (n : Node). let copy : Node = record { place = moved from to n.place; standing = n.standing } in copy))
+-- as many copies as there are nodes at and below the first place
+pub length-copies : (from to : Place) (ns : List Node) → length (copies from to ns) ≡ length (filter (λ (n : Node). is_at_or_above from n.place) ns)
+length-copies from to ns = length-map (filter (λ (n : Node). is_at_or_above from n.place) ns) (λ (n : Node). let copy : Node = record { place = moved from to n.place; standing = n.standing } in copy)
 
 -- the origins of what lies outside a place
 pub origins-outside : (there : Place) (ns : List Node) (ms : List ℕ) → length ns ≡ length ms →

@@ -15,7 +15,6 @@ use ocm_limits::MOST_PATH_BYTES;
 use ocm_types::Which;
 
 /// What is counted of the nodes after a copy or move.
-#[derive(Clone, Copy, Debug, PartialEq, Eq)]
 pub enum Amount {
     /// The bytes of all files.
     Bytes,
@@ -26,7 +25,7 @@ pub enum Amount {
 }
 
 /// All amounts.
-#[derive(Clone, Copy, Debug, PartialEq, Eq)]
+#[derive(Clone, Copy)]
 pub struct Amounts {
     pub bytes: u64,
     pub nodes: u64,

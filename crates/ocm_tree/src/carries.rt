@@ -58,11 +58,10 @@ impl PlannedCarry {
         requires within { list_any (makes_long_path from.now to.now) (somes slots.now) ≡ false }
         ensures { IfOk result (λ planned. planned ≡ record { from = from.now; to = to.now; moving = moving; nodes = copies from.now to.now (somes slots.now) }) }
     {
-        let nodes = plan_copies(alloc, from, to, slots)?;
-        let mut numbers = Vec::new(alloc);
-        numbers.reserve(nodes.len())?;
         let from = from.copy()?;
         let to = to.copy()?;
+        let nodes = plan_copies(alloc, &from, &to, slots)?;
+        let numbers = Vec::with_capacity(alloc, nodes.len())?;
         Ok(PlannedCarry {
             from,
             to,

@@ -7,7 +7,7 @@ use crate::places::is_at_or_above;
 use ocm_entry::{Node, Place, Standing};
 
 /// A change of what stands that is about to be made.
-#[derive(Clone, Copy, Debug)]
+#[derive(Clone, Copy)]
 pub enum FileChange<'a> {
     /// Nothing changes.
     Nothing,
@@ -30,7 +30,7 @@ pub enum FileChange<'a> {
 }
 
 /// What becomes of a node by a change.
-#[derive(Clone, Copy, Debug, PartialEq, Eq)]
+#[derive(Clone, Copy)]
 pub enum Part {
     /// It stays where it stands.
     Left,

@@ -86,7 +86,7 @@ impl EntryNumbers {
     {
         let index = self.numbers.len();
         put_in_place(&mut self.order, NumberedNode { number, index });
-        self.numbers.push(number).unwrap();
+        self.numbers.push_reserved(number);
     }
 
     /// Gives a slot another number. It takes no memory.
@@ -149,7 +149,5 @@ fn push_all(numbers: &mut Vec<u64>, more: &[u64])
     requires room { length more.now + vec_len numbers.old ≤ vec_capacity numbers.old }
     ensures numbers { numbers.new.items ≡ numbers.old.items ++ more.now }
 {
-    for number in more {
-        numbers.push(*number).unwrap();
-    }
+    numbers.extend_from_slice(more).unwrap();
 }

@@ -1,4 +1,4 @@
-ghost use Rattle.std.specs.Prelude.{◌≡◌, ◌&&◌, ◌<◌, ◌≤◌, ◌-◌, true, false, Some, None, map, filter, length, is_some, option_map, if◌then◌else◌, option_copied, slice_get, slice_index_or, slice_set, take, drop, vec_len, vec_capacity};
+ghost use Rattle.std.specs.Prelude.{◌≡◌, ◌&&◌, ◌<◌, ◌≤◌, ◌-◌, true, false, Some, None, map, filter, length, is_some, option_map, if◌then◌else◌, option_copied, slice_get, slice_index_or, slice_set, take, drop, min, vec_len, vec_capacity, OnOk};
 ghost use Rattle.std.specs.HashMap as hash;
 ghost use Rattle.std.specs.HashMap.{spare};
 ghost use Rattle.ocm_entry.specs.declared.rows.Node.{Node};
@@ -10,6 +10,7 @@ ghost use Rattle.ocm_tree.specs.Tables.{somes, slot_of, cleared, counted, IsTabl
 use crate::branches::Branch;
 use crate::kept::KeptNode;
 use crate::limits::size_of;
+use ocm_base::NoMemory;
 use ocm_entry::{Place, Standing};
 use std::collections::HashMap;
 
@@ -50,7 +51,7 @@ pub fn one_of(slots: &[Option<KeptNode>], index: usize) -> &[Option<KeptNode>]
 }
 
 /// Takes the node out of a slot that has one.
-pub fn take_out(slots: &mut Vec<Option<KeptNode>>, index: usize) -> KeptNode
+fn take_out(slots: &mut Vec<Option<KeptNode>>, index: usize) -> KeptNode
     requires within { index < length slots.old.items }
     requires full { is_some (slice_index_or slots.old.items index None) ≡ true }
     ensures node { Some result ≡ slice_index_or slots.old.items index None }
@@ -61,6 +62,24 @@ pub fn take_out(slots: &mut Vec<Option<KeptNode>>, index: usize) -> KeptNode
         Some(node) => node,
         None => unreachable!(),
     }
+}
+
+/// Room for so many more nodes in slots, and in the indexes beside them.
+pub fn reserve_all(
+    slots: &mut Vec<Option<KeptNode>>,
+    places: &mut HashMap<Place, usize>,
+    children: &mut HashMap<Place, u32>,
+    more: usize,
+) -> Result<(), NoMemory>
+    ensures slots { slots.new.items ≡ slots.old.items }
+    ensures places { (place : Place) → hash.get same_place places.new place ≡ hash.get same_place places.old place }
+    ensures children { (place : Place) → hash.get same_place children.new place ≡ hash.get same_place children.old place }
+    ensures room { OnOk result (more ≤ min (vec_capacity slots.new - vec_len slots.new) (min (spare places.new) (spare children.new))) }
+{
+    slots.reserve(more)?;
+    places.reserve(more)?;
+    children.reserve(more)?;
+    Ok(())
 }
 
 /// Puts a node into a slot, in the place of another.
@@ -104,18 +123,6 @@ fn lessen(children: &mut HashMap<Place, u32>, collection: &Place)
     }
 }
 
-/// Keeps the counts of the other collections once nothing stands any more at a place below which
-/// nothing stands, and which lies in the parent.
-pub fn drop_count(children: &mut HashMap<Place, u32>, there: &Place, parent: &Place)
-    requires { parent.now ≡ parent_of there.now }
-    ensures counts { (place : Place) → counted (hash.get same_place children.new place)
-        ≡ (if same_place there.now place then 0 else counted (hash.get same_place children.old place) - (if same_place (parent_of there.now) place then 1 else 0)) }
-    ensures spare { spare children.old ≤ spare children.new }
-{
-    children.remove(there);
-    lessen(children, parent);
-}
-
 /// Whether the node of a slot lies at a place or below it.
 fn is_below(slot: &Option<KeptNode>, there: &Branch<'_>) -> bool
     ensures clear { cleared there.now slot.now ≡ (if result then None else slot.now) }
@@ -128,7 +135,7 @@ fn is_below(slot: &Option<KeptNode>, there: &Branch<'_>) -> bool
 }
 
 /// Lets the node of a slot stand no more.
-fn remove_slot(
+pub fn remove_slot(
     slots: &mut Vec<Option<KeptNode>>,
     places: &mut HashMap<Place, usize>,
     children: &mut HashMap<Place, u32>,

@@ -1,4 +1,5 @@
 ghost use Rattle.std.specs.Prelude.{◌≡◌, ◌≤◌, ◌++◌, ◌∷◌, [], length, map, filter, true, false, IfOk, OnOk};
+ghost use Rattle.ocm_limits.specs.Limits.{most_asked_path_bytes};
 ghost use Rattle.ocm_path.specs.Paths.{path_text};
 ghost use Rattle.ocm_rules.specs.Files.{name_at, same_place, parent_of, children};
 ghost use Rattle.ocm_rules.specs.Answers.{item_size};
@@ -17,10 +18,25 @@ use ocm_path::Path;
 use std::alloc::Global;
 
 /// What lies in a collection, with the name by which it stands in order.
-#[derive(Drop)]
 pub struct Child {
     pub name: Text,
     pub item: DavItem,
+}
+
+impl Drop for Child {
+    fn drop(self) {
+        let Child { name: _, item: _ } = self;
+    }
+}
+
+impl Child {
+    /// What is told of it.
+    fn into_item(self) -> DavItem
+        ensures { result ≡ self.item }
+    {
+        let Child { name: _, item } = self;
+        item
+    }
 }
 
 /// The bytes of a file; a collection has none.
@@ -41,14 +57,14 @@ fn name_of(alloc: Global, node: &Node) -> Result<Text, NoMemory>
     let _segments = node.place.path.segments();
     match node.place.path.last() {
         Some(name) => name.copy(),
-        None => Ok(Text::of(alloc, "")?),
+        None => Text::of(alloc, ""),
     }
 }
 
 /// What lies in a collection, as it is told below the path of the collection.
 fn child_of(alloc: Global, node: &Node, place: &Place, path: &Path) -> Result<Child, NoMemory>
     requires lies { same_place (parent_of node.now.place) place.now ≡ true }
-    requires short { length (path_text path.now) ≤ 1024 }
+    requires short { length (path_text path.now) ≤ most_asked_path_bytes }
     ensures { IfOk result (λ child. child ≡ child_of place.now path.now node.now) }
 {
     let name = name_of(alloc, node)?;
@@ -76,7 +92,7 @@ fn push_node(
     path: &Path,
 ) -> Result<(), NoMemory>
     requires lies { same_place (parent_of node.now.place) place.now ≡ true }
-    requires short { length (path_text path.now) ≤ 1024 }
+    requires short { length (path_text path.now) ≤ most_asked_path_bytes }
     ensures { OnOk result (found.new.items ≡ found.old.items ++ child_of place.now path.now node.now ∷ []) }
 {
     let alloc = *found.allocator();
@@ -92,7 +108,7 @@ fn push_child(
     place: &Place,
     path: &Path,
 ) -> Result<(), NoMemory>
-    requires short { length (path_text path.now) ≤ 1024 }
+    requires short { length (path_text path.now) ≤ most_asked_path_bytes }
     ensures { OnOk result (found.new.items ≡ found.old.items ++ listed (child_of place.now path.now) (lies_in place.now) slot.now) }
 {
     if let Some(kept) = slot {
@@ -112,7 +128,7 @@ fn push_where(
     place: &Place,
     path: &Path,
 ) -> Result<(), NoMemory>
-    requires short { length (path_text path.now) ≤ 1024 }
+    requires short { length (path_text path.now) ≤ most_asked_path_bytes }
     requires apart { test ≡ false → listed (child_of place.now path.now) (lies_in place.now) slot.now ≡ [] }
     ensures { OnOk result (found.new.items ≡ found.old.items ++ listed (child_of place.now path.now) (lies_in place.now) slot.now) }
 {
@@ -132,7 +148,7 @@ fn unsorted_children(
     place: &Place,
     path: &Path,
 ) -> Result<Vec<Child>, NoMemory>
-    requires short { length (path_text path.now) ≤ 1024 }
+    requires short { length (path_text path.now) ≤ most_asked_path_bytes }
     requires same { length slots.now ≡ length tags.now }
     requires tagged { numbers_in slots.now tags.now ≡ map parent_tag (somes slots.now) }
     ensures { IfOk result (λ found. found.items ≡ map (child_of place.now path.now) (filter (lies_in place.now) (somes slots.now))) }
@@ -154,7 +170,7 @@ pub fn children_of(
     place: &Place,
     path: &Path,
 ) -> Result<Vec<Child>, NoMemory>
-    requires short { length (path_text path.now) ≤ 1024 }
+    requires short { length (path_text path.now) ≤ most_asked_path_bytes }
     requires same { length slots.now ≡ length tags.now }
     requires tagged { numbers_in slots.now tags.now ≡ map parent_tag (somes slots.now) }
     ensures { IfOk result (λ found. found.items ≡ map (child_of place.now path.now) (children (somes slots.now) place.now)) }
@@ -170,9 +186,7 @@ pub fn items_of(alloc: Global, children: Vec<Child>) -> Result<List<DavItem>, No
 {
     let mut items = List::new(alloc);
     for child in children {
-        let Child { name, item } = child;
-        drop(name);
-        items.push(item)?;
+        items.push(child.into_item())?;
     }
     Ok(items)
 }

@@ -10,8 +10,8 @@ ghost use Rattle.ocm_tree.specs.Carries.{amount_in, weight_in, makes_long, AreAm
 use crate::amounts::{Amounts, amounts_after, amounts_by_one};
 use crate::branches::Branch;
 use crate::indexes::{
-    are_both, counted, drop_count, drop_empty, number_places, one_of, put_in, remove_below,
-    standing_in, take_out,
+    are_both, counted, drop_empty, number_places, one_of, put_in, remove_below, remove_slot,
+    reserve_all, standing_in,
 };
 use crate::kept::KeptNode;
 use crate::limits::{size_at, size_of};
@@ -106,10 +106,7 @@ impl NodeTable {
     pub fn slot_of(&self, place: &Place) -> Option<usize>
         ensures { result ≡ slot_of self.now.slots place.now }
     {
-        match self.places.get(place) {
-            Some(index) => Some(*index),
-            None => None,
-        }
+        self.places.get(place).copied()
     }
 
     /// What stands at a place below the users' roots.
@@ -183,10 +180,7 @@ impl NodeTable {
         ensures slots { self.new.slots ≡ self.old.slots }
         ensures ok { OnOk result (more ≤ self.new.room) }
     {
-        self.slots.reserve(more)?;
-        self.places.reserve(more)?;
-        self.children.reserve(more)?;
-        Ok(())
+        reserve_all(&mut self.slots, &mut self.places, &mut self.children, more)
     }
 
     /// Lets nothing stand any more at a place and below it, and leaves the slots empty. It takes no
@@ -290,11 +284,15 @@ impl NodeTable {
         ensures slots { self.new.slots ≡ map (cleared place.now) self.old.slots }
         ensures room { self.old.room ≤ self.new.room }
     {
-        if let Some(index) = self.places.remove(place) {
-            let kept = take_out(&mut self.slots, index);
-            self.count -= 1;
-            self.total -= size_of(kept.standing());
-            drop_count(&mut self.children, kept.place(), kept.parent());
+        if let Some(index) = self.slot_of(place) {
+            remove_slot(
+                &mut self.slots,
+                &mut self.places,
+                &mut self.children,
+                &mut self.count,
+                &mut self.total,
+                index,
+            );
         }
     }
 
@@ -322,20 +320,8 @@ impl NodeTable {
         ensures slots { self.new.slots ≡ self.old.slots ++ map (λ (n : Node). Some n) nodes.items }
     {
         for planned in nodes {
-            self.add_planned(planned);
+            self.add(planned);
         }
-    }
-
-    fn add_planned(&mut self, planned: PlannedNode)
-        requires room { 0 < self.old.room }
-        requires absent { node_at (somes self.old.slots) planned.place ≡ None }
-        requires few { length (somes self.old.slots) < most_nodes }
-        requires light { total_size (somes self.old.slots) + size_of planned.standing ≤ most_stored_bytes }
-        ensures slots { self.new.slots ≡ self.old.slots ++ Some planned ∷ [] }
-        ensures room { self.old.room ≤ self.new.room + 1 }
-    {
-        let (node, key, parent) = planned.into_parts();
-        self.add(node, key, parent);
     }
 
     /// Lets a node stand in the slot of the one that stands at its place. It takes no memory.
@@ -350,28 +336,23 @@ impl NodeTable {
         put_in(&mut self.slots, index, node);
     }
 
-    /// Lets a node stand where nothing stands, given with its place once more and the place that it
-    /// lies in. It takes no memory.
-    pub fn add(&mut self, node: KeptNode, key: Place, parent: Place)
+    /// Lets a node stand where nothing stands. It takes no memory.
+    pub fn add(&mut self, planned: PlannedNode)
         requires room { 0 < self.old.room }
-        requires key { key ≡ node.place }
-        requires parent { parent ≡ parent_of node.place }
-        requires absent { node_at (somes self.old.slots) node.place ≡ None }
+        requires absent { node_at (somes self.old.slots) planned.place ≡ None }
         requires few { length (somes self.old.slots) < most_nodes }
-        requires light { total_size (somes self.old.slots) + size_of node.standing ≤ most_stored_bytes }
-        ensures slots { self.new.slots ≡ self.old.slots ++ Some node ∷ [] }
+        requires light { total_size (somes self.old.slots) + size_of planned.standing ≤ most_stored_bytes }
+        ensures slots { self.new.slots ≡ self.old.slots ++ Some planned ∷ [] }
         ensures room { self.old.room ≤ self.new.room + 1 }
     {
         let index = self.slots.len();
-        let count = counted(self.children.get(&parent));
-        let lies = self.has_root_or_node(&parent);
+        let above = planned.parent();
+        let lies = self.has_root_or_node(above);
+        let more = counted(self.children.get(above)) + 1;
         self.rooted = are_both(self.rooted, lies);
         self.count += 1;
-        self.total += size_of(node.standing());
-        let placed: Result<_, _> = self.places.insert(key, index);
-        let _before = placed.unwrap();
-        let counted: Result<_, _> = self.children.insert(parent, count + 1);
-        let _count = counted.unwrap();
-        self.slots.push(Some(node)).unwrap();
+        self.total += size_of(planned.standing());
+        let node = planned.into_slot(&mut self.places, index, &mut self.children, more);
+        self.slots.push_reserved(Some(node));
     }
 }

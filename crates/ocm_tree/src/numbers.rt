@@ -49,7 +49,7 @@ pub fn copy_numbers(
     ensures { kept.new.items ≡ numbers_where (slot_passes (λ (n : Node). is_at_or_above there.now n.place)) slots.now numbers.now }
 {
     match lone {
-        Some(index) => kept.push(numbers[index]).unwrap(),
+        Some(index) => kept.push_reserved(numbers[index]),
         None => copy_each(kept, numbers, slots, there),
     }
 }
@@ -64,7 +64,7 @@ fn copy_each(kept: &mut Vec<u64>, numbers: &[u64], slots: &[Option<KeptNode>], t
 {
     for (index, slot) in slots.iter().enumerate() {
         if lies_below(there, slot) {
-            kept.push(numbers[index]).unwrap();
+            kept.push_reserved(numbers[index]);
         }
     }
 }

@@ -5,7 +5,7 @@ ghost use Rattle.ocm_tree.specs.declared.orders.NumberedNode.{NumberedNode};
 ghost use Rattle.ocm_tree.specs.Orders.{from_number, is_node, numbered, IsInOrder};
 
 /// A node by its index among all, with the number of the kept entry that put what stands there.
-#[derive(Clone, Copy, Debug, PartialEq, Eq)]
+#[derive(Clone, Copy)]
 pub struct NumberedNode {
     pub number: u64,
     pub index: usize,
@@ -20,11 +20,14 @@ pub fn start_of(order: &[NumberedNode], number: u64) -> usize
     order.partition_point(|node| node.number < number)
 }
 
-/// How many of the first nodes in the order of their numbers have no later number than this.
+/// How many of the first nodes in the order of their numbers have no later number than this: these come
+/// before a further one with this number.
 fn end_of(order: &[NumberedNode], number: u64) -> usize
     requires { IsNonDecreasingBy (λ (node : NumberedNode). node.number) order.now }
     ensures within { result ≤ length order.now }
     ensures earlier { take result order.now ≡ filter (λ (node : NumberedNode). nat_le node.number number) order.now }
+    ensures before { (k : ℕ) (d : NumberedNode) → k < result → (slice_index_or order.now k d).number ≤ number }
+    ensures behind { (k : ℕ) (d : NumberedNode) → result ≤ k → k < length order.now → number ≤ (slice_index_or order.now k d).number }
 {
     order.partition_point(|node| node.number <= number)
 }
@@ -59,17 +62,6 @@ pub fn place_of(order: &[NumberedNode], number: u64, index: usize) -> usize
     start + later
 }
 
-/// How many nodes in the order of their numbers come before a further one with this number: those
-/// without a later number.
-fn place_for(order: &[NumberedNode], number: u64) -> usize
-    requires { IsNonDecreasingBy (λ (node : NumberedNode). node.number) order.now }
-    ensures within { result ≤ length order.now }
-    ensures before { (k : ℕ) (d : NumberedNode) → k < result → (slice_index_or order.now k d).number ≤ number }
-    ensures behind { (k : ℕ) (d : NumberedNode) → result ≤ k → k < length order.now → number ≤ (slice_index_or order.now k d).number }
-{
-    order.partition_point(|node| node.number <= number)
-}
-
 /// Puts one more node at its place in the order of the numbers. It takes no memory.
 pub fn put_in_place(order: &mut Vec<NumberedNode>, node: NumberedNode)
     requires sorted { IsNonDecreasingBy (λ (node : NumberedNode). node.number) order.old.items }
@@ -79,7 +71,7 @@ pub fn put_in_place(order: &mut Vec<NumberedNode>, node: NumberedNode)
     ensures len { vec_len order.new ≡ vec_len order.old + 1 }
     ensures capacity { vec_capacity order.old ≤ vec_capacity order.new }
 {
-    let place = place_for(order, node.number);
+    let place = end_of(order, node.number);
     order.insert(place, node).unwrap();
 }
 
@@ -95,7 +87,7 @@ fn list_all(numbers: &[u64], order: &mut Vec<NumberedNode>)
             number: *number,
             index,
         };
-        order.push(node).unwrap();
+        order.push_reserved(node);
     }
 }
 

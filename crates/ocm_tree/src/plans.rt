@@ -1,9 +1,13 @@
-ghost use Rattle.std.specs.Prelude.{◌≡◌, IfOk};
-ghost use Rattle.ocm_rules.specs.Files.{parent_of};
+ghost use Rattle.std.specs.Prelude.{◌≡◌, ◌<◌, ◌≤◌, ◌+◌, IfOk, Some, if◌then◌else◌};
+ghost use Rattle.std.specs.HashMap as hash;
+ghost use Rattle.std.specs.HashMap.{spare};
+ghost use Rattle.ocm_entry.specs.declared.rows.Place.{Place};
+ghost use Rattle.ocm_rules.specs.Files.{parent_of, same_place};
 
 use crate::kept::KeptNode;
 use ocm_base::NoMemory;
 use ocm_entry::{Place, Standing};
+use std::collections::HashMap;
 use std::marker::Model;
 
 /// A node that is about to stand, with all that a tree needs to take it without memory. Contracts
@@ -43,13 +47,10 @@ impl PlannedNode {
         requires { parent ≡ parent_of place }
         ensures { IfOk result (λ planned. planned ≡ record { place = place; standing = standing }) }
     {
-        let key = place.copy()?;
-        let above = parent.copy()?;
-        Ok(PlannedNode {
-            kept: KeptNode::new(place, above, standing),
-            key,
-            parent,
-        })
+        let kept = KeptNode::new(place, parent, standing);
+        let key = kept.place().copy()?;
+        let parent = kept.parent().copy()?;
+        Ok(PlannedNode { kept, key, parent })
     }
 
     /// Where the node is to stand.
@@ -73,13 +74,40 @@ impl PlannedNode {
         &self.parent
     }
 
-    /// The node, its place once more, and the place that it lies in.
-    pub(crate) fn into_parts(self) -> (KeptNode, Place, Place)
-        ensures node { result.0 ≡ self }
-        ensures key { result.1 ≡ self.place }
-        ensures parent { result.2 ≡ parent_of self.place }
+    /// The node alone.
+    pub(crate) fn into_node(self) -> KeptNode
+        ensures { result ≡ self }
+    {
+        let PlannedNode {
+            kept,
+            key: _,
+            parent: _,
+        } = self;
+        kept
+    }
+
+    /// The node, once its place has this number in one index, and the place that it lies in this count in
+    /// another. It takes no memory.
+    pub(crate) fn into_slot(
+        self,
+        places: &mut HashMap<Place, usize>,
+        index: usize,
+        children: &mut HashMap<Place, u32>,
+        count: u32,
+    ) -> KeptNode
+        requires places { 0 < spare places.old }
+        requires children { 0 < spare children.old }
+        ensures node { result ≡ self }
+        ensures places { (place : Place) → hash.get same_place places.new place ≡ (if same_place self.place place then Some index else hash.get same_place places.old place) }
+        ensures children { (place : Place) → hash.get same_place children.new place ≡ (if same_place (parent_of self.place) place then Some count else hash.get same_place children.old place) }
+        ensures spare_places { spare places.old ≤ spare places.new + 1 }
+        ensures spare_children { spare children.old ≤ spare children.new + 1 }
     {
         let PlannedNode { kept, key, parent } = self;
-        (kept, key, parent)
+        let placed: Result<_, _> = places.insert(key, index);
+        let _before = placed.unwrap();
+        let counted: Result<_, _> = children.insert(parent, count);
+        let _count = counted.unwrap();
+        kept
     }
 }

@@ -50,6 +50,6 @@ pub fn push_tags(tags: &mut Vec<u64>, nodes: &[PlannedNode])
     ensures { tags.new.items ≡ tags.old.items ++ map parent_tag nodes.now }
 {
     for planned in nodes {
-        tags.push(tag_of(planned.parent())).unwrap();
+        tags.push_reserved(tag_of(planned.parent()));
     }
 }

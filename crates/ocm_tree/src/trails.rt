@@ -38,7 +38,7 @@ pub fn trail_of(user: u32, path: &[Text], missing: u64) -> u64
 }
 
 /// The least and the greatest number that the trails of places can be.
-#[derive(Clone, Copy, Debug, PartialEq, Eq)]
+#[derive(Clone, Copy)]
 pub struct Span {
     pub least: u64,
     pub most: u64,

@@ -1,14 +1,17 @@
-ghost use Rattle.std.specs.Prelude.{◌≡◌, ◌≢◌, ◌<◌, ◌≤◌, ◌+◌, ◌++◌, ℕ, [], All, length, Some, None, filter, IfOk, IfSome, IsSomeAnd, OnOk, option_copied};
-ghost use Rattle.ocm_limits.specs.Limits.{most_file_bytes};
+ghost use Rattle.std.specs.Prelude.{◌≡◌, ◌≢◌, ◌<◌, ◌≤◌, ◌+◌, ◌++◌, ℕ, [], All, length, Some, None, filter, IfOk, IfSome, IsSomeAnd, OnOk, option_copied, vec_capacity};
+ghost use Rattle.std.specs.Option.{option_or};
+ghost use Rattle.ocm_limits.specs.Limits.{most_asked_path_bytes, most_file_bytes, most_nodes, most_stored_bytes};
 ghost use Rattle.ocm_path.specs.Paths.{path_text};
+ghost use Rattle.ocm_entry.specs.declared.rows.Node.{Node};
 ghost use Rattle.ocm_entry.specs.declared.rows.Standing.{Standing};
 ghost use Rattle.ocm_entry.specs.declared.rows.Standing.TheVariants.{Collection, File};
-ghost use Rattle.ocm_rules.specs.Files.{size_of, parent_of, with_node, with_roots, limit_of, nodes_after, Gone, Carried, copies, stays, path_limit, limit_of_carry};
+ghost use Rattle.ocm_rules.specs.Files.{size_of, parent_of, is_at_or_above, total_size, with_node, with_roots, limit_of, nodes_after, Gone, Carried, copies, stays, path_limit, limit_of_carry};
 ghost use Rattle.ocm_rules.specs.State.{node_at, EachOnce};
 ghost use Rattle.ocm_rules.specs.Answers.{is_collection, items_in};
 ghost use Rattle.ocm_law_origins.specs.Origins.{Origin, body_from, copied, origin_stays, origins_after, with_origin};
 ghost use Rattle.ocm_tree.specs.Carries.{limit_after};
 ghost use Rattle.ocm_tree.specs.Changes.{act_of};
+ghost use Rattle.ocm_tree.specs.Standings.{origins_of};
 
 use crate::amounts::limit_of_paths;
 use crate::branches::Branch;
@@ -184,16 +187,15 @@ impl Tree {
         ensures origins { self.new.origins ≡ with_origin self.old.origins (record { place = planned.place; number = number }) }
         ensures room { self.old.room ≤ self.new.room + 1 }
     {
-        let (node, key, parent) = planned.into_parts();
-        match self.table.slot_of(&key) {
+        match self.table.slot_of(planned.place()) {
             Some(index) => {
                 self.numbers.replace(index, number);
-                self.table.replace(index, node);
+                self.table.replace(index, planned.into_node());
             }
             None => {
                 self.numbers.add(number);
-                self.tags.push(tag_of(&parent)).unwrap();
-                self.table.add(node, key, parent);
+                self.tags.push_reserved(tag_of(planned.parent()));
+                self.table.add(planned);
             }
         }
     }
@@ -210,13 +212,12 @@ impl Tree {
     /// What lies in the collection at a place, in byte order of the names, as it is told below a path
     /// of at most 1,024 bytes.
     pub fn items(&self, place: &Place, path: &Path) -> Result<List<DavItem>, NoMemory>
-        requires short { length (path_text path.now) ≤ 1024 }
+        requires short { length (path_text path.now) ≤ most_asked_path_bytes }
         ensures { IfOk result (λ items. items ≡ items_in self.now.nodes place.now path.now) }
     {
         let alloc = self.table.allocator();
         let children = children_of(alloc, self.table.slots(), &self.tags, place, path)?;
-        let items = items_of(alloc, children)?;
-        Ok(items)
+        items_of(alloc, children)
     }
 
     /// The first limit that would be passed by a copy or move of what stands at `from`, and of all
@@ -229,24 +230,19 @@ impl Tree {
         if size_at(self.table.node_at(from)) > MOST_FILE_BYTES {
             return Some(Which::FileSize);
         }
-        let (numbers, paths) = self.limits_after(from, to, moving);
-        match numbers {
-            Some(limit) => Some(limit),
-            None => paths,
-        }
+        self.limit_after(from, to, moving)
     }
 
-    /// The first limit that is passed by the numbers of what stands after a copy or move, and the limit
+    /// The first limit that is passed by the numbers of what stands after a copy or move, else the limit
     /// on the paths that it makes, where one passes it.
-    fn limits_after(&self, from: &Place, to: &Place, moving: bool) -> (Option<Which>, Option<Which>)
-        ensures numbers { result.0 ≡ limit_after self.now.nodes from.now to.now moving }
-        ensures paths { result.1 ≡ path_limit (copies from.now to.now self.now.nodes) }
+    fn limit_after(&self, from: &Place, to: &Place, moving: bool) -> Option<Which>
+        ensures { result ≡ option_or (limit_after self.now.nodes from.now to.now moving) (path_limit (copies from.now to.now self.now.nodes)) }
     {
         let source = Branch::new(from);
         let target = Branch::new(to);
         let after = self.table.amounts_after(&source, &target, moving);
         let numbers = first_passed(after.bytes, after.nodes, after.siblings);
-        (numbers, limit_of_paths(after.long))
+        numbers.or(limit_of_paths(after.long))
     }
 
     /// Plans a copy or move of what stands at `from`, and of all below it, to `to`, by which no limit
@@ -283,17 +279,41 @@ impl Tree {
         ensures origins { self.new.origins ≡ origins_after (Some (Carried planned.from planned.to planned.moving)) 0 self.old.origins }
     {
         let (from, to, moving, nodes, mut numbers) = planned.into_parts();
+        self.note_numbers(&from, &mut numbers);
+        self.clear(&from, &to, moving);
+        self.add_all(nodes, &numbers);
+    }
+
+    /// Writes down the numbers of what stands at and below a place. It takes no memory.
+    fn note_numbers(&self, from: &Place, kept: &mut Vec<u64>)
+        requires empty { kept.old.items ≡ [] }
+        requires room { length (filter (λ (n : Node). is_at_or_above from.now n.place) self.now.nodes) ≤ vec_capacity kept.old }
+        ensures same { length kept.new.items ≡ length (filter (λ (n : Node). is_at_or_above from.now n.place) self.now.nodes) }
+        ensures origins { (to : Place) → origins_of (copies from.now to self.now.nodes) kept.new.items ≡ copied from.now to self.now.origins }
+        ensures once { EachOnce self.now.nodes }
+    {
         copy_numbers(
-            &mut numbers,
+            kept,
             self.numbers.numbers(),
             self.table.slots(),
-            &Branch::new(&from),
-            self.table.lone_slot(&from),
+            &Branch::new(from),
+            self.table.lone_slot(from),
         );
-        self.clear(&from, &to, moving);
+    }
+
+    /// Lets nodes stand where nothing stands, by the entries of these numbers. It takes no memory.
+    fn add_all(&mut self, nodes: Vec<PlannedNode>, numbers: &[u64])
+        requires same { length nodes.items ≡ length numbers.now }
+        requires room { length nodes.items ≤ self.old.room }
+        requires once { EachOnce (self.old.nodes ++ nodes.items) }
+        requires few { length (self.old.nodes ++ nodes.items) ≤ most_nodes }
+        requires light { total_size (self.old.nodes ++ nodes.items) ≤ most_stored_bytes }
+        ensures nodes { self.new.nodes ≡ self.old.nodes ++ nodes.items }
+        ensures origins { self.new.origins ≡ self.old.origins ++ origins_of nodes.items numbers.now }
+    {
         push_tags(&mut self.tags, &nodes);
         self.table.add_all(nodes);
-        self.numbers.extend(&numbers);
+        self.numbers.extend(numbers);
     }
 
     /// Lets only what stays stand at a copy or move.

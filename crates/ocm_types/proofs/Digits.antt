@@ -4,7 +4,7 @@ use Rattle.std.proofs.lemmas.List.{take_more_set}
 use Rattle.std.specs.List.{list_all}
 use Rattle.std.proofs.lemmas.Bool.{and_parts}
 use Rattle.std.proofs.lemmas.Bool.Decides.{nat_tests}
-use Rattle.ocm_base.specs.Hex.{hex, hex_digit, hex_value, is_hex_byte, unhex}
+use Rattle.ocm_texts.specs.Hex.{hex, hex_digit, hex_value, is_hex_byte, unhex}
 use Rattle.ocm_types.specs.Draws.{fresh_of}
 use Rattle.ocm_types.specs.Texts.{is_allowed, is_secret}
 

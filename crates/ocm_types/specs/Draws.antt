@@ -1,7 +1,7 @@
 use Rattle.std.specs.Prelude.{ℕ, ◌+◌, ◌%◌, ◌^◌, ◌&&◌, if◌then◌else◌, List, Option, Some, None}
 use Rattle.std.specs.List.{list_all}
 use Rattle.std.specs.Int.{w128, from_be_bytes, to_be_bytes}
-use Rattle.ocm_base.specs.Hex.{is_hex_byte, unhex}
+use Rattle.ocm_texts.specs.Hex.{is_hex_byte, unhex}
 use Rattle.ocm_types.specs.Texts.{has_length}
 
 -- the 16 bytes that exactly 32 lower-case hexadecimal digits spell

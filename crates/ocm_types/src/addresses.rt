@@ -8,11 +8,11 @@ use crate::address_faults::AddressFault;
 use crate::hosts::Host;
 use crate::names::Name;
 use crate::texts::TextFault;
-use ocm_base::{Copied, NoMemory, Text, and};
+use ocm_texts::{Copied, NoMemory, Text, and};
 use std::alloc::Global;
 
 /// A user at a server.
-#[derive(Debug, PartialEq, Eq, PartialOrd, Ord, Hash)]
+#[derive(Debug, PartialEq, Eq, Hash)]
 pub struct Address {
     /// The user's name. It may have an `@`.
     pub user: Name,

@@ -1,16 +1,16 @@
 ghost use Rattle.std.specs.Prelude.{◌≡◌, ◌<◌, ◌+◌, ◌*◌, ◌%◌, ◌^◌, IfOk, IsTrue, length};
-ghost use Rattle.ocm_base.specs.Hex as hexadecimal;
+ghost use Rattle.ocm_texts.specs.Hex as hexadecimal;
 ghost use Rattle.std.specs.List.{list_all};
 ghost use Rattle.ocm_types.specs.Draws.{fresh_of, fresh_plus, number_of};
 
 use crate::secrets::Secret;
 use crate::texts::has_length;
-use ocm_base::{NoMemory, hex_of};
+use ocm_texts::{NoMemory, hex_of};
 use std::alloc::Global;
 use std::marker::Model;
 
 /// 16 bytes that were drawn at random. Contracts see the bytes.
-#[derive(Clone, Copy, Debug, PartialEq, Eq, PartialOrd, Ord, Hash)]
+#[derive(Clone, Copy, Debug, PartialEq, Eq)]
 pub struct Fresh {
     bytes: [u8; 16],
 }

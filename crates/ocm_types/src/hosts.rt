@@ -9,13 +9,13 @@ ghost use Rattle.ocm_types.specs.Hosts as hosts;
 ghost use Rattle.ocm_types.specs.Hosts.{Gives};
 
 use crate::address_faults::AddressFault;
-use ocm_base::{Copied, NoMemory, Text, and};
+use ocm_texts::{Copied, NoMemory, Text, and};
 use std::alloc::Global;
 use std::marker::Model;
 
 /// A server's host: a name of 1 to 240 lower-case ASCII letters, digits, `-` and `.`, and behind a
 /// `:` its port, unless that is 80. Contracts see the bytes of that text.
-#[derive(Debug, PartialEq, Eq, PartialOrd, Ord, Hash)]
+#[derive(Debug, PartialEq, Eq, Hash)]
 pub struct Host {
     text: Text,
 }

@@ -3,13 +3,13 @@ ghost use Rattle.ocm_types.specs.Reads.{Gives};
 ghost use Rattle.ocm_types.specs.Texts.{has_length, is_provider_id, is_sender_id, provider_id_of, sender_id_of};
 
 use crate::texts::{TextFault, checked_text};
-use ocm_base::{Copied, NoMemory, Text};
+use ocm_texts::{Copied, NoMemory, Text};
 use std::alloc::Global;
 use std::marker::Model;
 
 /// The owner's mark of a share, unique at its server: the `providerId` of an offer and of each notification about the
 /// share (Open Cloud Mesh API 1.1). It has 1 to 255 bytes of UTF-8 and no control character. Contracts see its bytes.
-#[derive(Debug, PartialEq, Eq, PartialOrd, Ord, Hash)]
+#[derive(Debug, PartialEq, Eq, Hash)]
 pub struct ProviderId {
     text: Text,
 }
@@ -73,7 +73,7 @@ impl Copied for ProviderId {
 /// A recipient's mark of its request that a share be passed on, unique at its server: the `senderId` of the notification
 /// `REQUEST_RESHARE` (Open Cloud Mesh API 1.1). It has 1 to 64 bytes of UTF-8 and no control character. Contracts see its
 /// bytes.
-#[derive(Debug, PartialEq, Eq, PartialOrd, Ord, Hash)]
+#[derive(Debug, PartialEq, Eq, PartialOrd, Ord)]
 pub struct SenderId {
     text: Text,
 }

@@ -6,7 +6,7 @@ use crate::identifiers::{ProviderId, SenderId};
 use crate::names::ShareName;
 use crate::rights::Perms;
 use crate::secrets::Secret;
-use ocm_base::{Copied, NoMemory, and};
+use ocm_texts::{Copied, NoMemory, and};
 
 /// The same value once more, where there is one.
 fn copy_of_option<T: Copied>(value: &Option<T>) -> Result<Option<T>, NoMemory>
@@ -29,7 +29,6 @@ fn copies_of(id: &ProviderId, secret: &Secret) -> Result<(ProviderId, Secret), N
 }
 
 /// An offer of a share: what the body of POST to `{endPoint}/shares` says (Open Cloud Mesh API 1.1).
-#[derive(Debug, PartialEq, Eq)]
 pub struct Offer {
     /// Who gets the share: `shareWith`.
     pub with: Address,
@@ -92,7 +91,6 @@ impl Copied for Offer {
 
 /// A notification about a share: what the body of POST to `{endPoint}/notifications` says (Open Cloud Mesh API 1.1). In
 /// each, `id` is its `providerId` and `secret` its `sharedSecret`: those of the share, as its offer gave them.
-#[derive(Debug, PartialEq, Eq)]
 pub enum Notice {
     /// `SHARE_ACCEPTED`: the recipient took the share. What is present of the owner, the recipient and the permissions
     /// says how the recipient understood the offer.
@@ -252,7 +250,6 @@ impl Copied for Notice {
 }
 
 /// What one server sends another.
-#[derive(Debug, PartialEq, Eq)]
 pub enum Letter {
     /// An offer, for the shares end point.
     Offer(Offer),
@@ -294,7 +291,6 @@ impl Copied for Letter {
 }
 
 /// A letter that waits to be sent.
-#[derive(Debug, PartialEq, Eq)]
 pub struct Numbered {
     /// Its number among the letters of its server.
     pub number: u32,

@@ -3,13 +3,13 @@ ghost use Rattle.ocm_types.specs.Reads.{Gives};
 ghost use Rattle.ocm_types.specs.Texts.{has_length, is_name, is_share_name, name_of, share_name_of};
 
 use crate::texts::{TextFault, checked_text};
-use ocm_base::{Copied, NoMemory, Text};
+use ocm_texts::{Copied, NoMemory, Text};
 use std::alloc::Global;
 use std::marker::Model;
 
 /// A user's name at its server: the part of an address before the last `@`. It has 1 to 64 bytes of UTF-8, no control
 /// character (0 to 31, and 127) and no `/`. Contracts see its bytes.
-#[derive(Debug, PartialEq, Eq, PartialOrd, Ord, Hash)]
+#[derive(Debug, PartialEq, Eq, Hash)]
 pub struct Name {
     text: Text,
 }
@@ -72,7 +72,7 @@ impl Copied for Name {
 
 /// What the owner calls a share: the `name` of an offer (Open Cloud Mesh API 1.1). It has 1 to 1,024 bytes of UTF-8 and
 /// no control character. Contracts see its bytes.
-#[derive(Debug, PartialEq, Eq, PartialOrd, Ord, Hash)]
+#[derive(Debug, PartialEq, Eq, Hash)]
 pub struct ShareName {
     text: Text,
 }

@@ -2,7 +2,7 @@ ghost use Rattle.std.specs.Prelude.{◌≡◌, IfOk};
 ghost use Rattle.ocm_types.specs.Phases.{phase_word};
 
 use crate::identifiers::ProviderId;
-use ocm_base::{Copied, NoMemory};
+use ocm_texts::{Copied, NoMemory};
 
 /// Which of a server's limits an ask would pass: where it would pass several, the first in this order.
 #[derive(Clone, Copy, Debug, PartialEq, Eq)]
@@ -65,7 +65,6 @@ impl Phase {
 }
 
 /// How far a recipient's request that a share be passed on has come (`REQUEST_RESHARE` of Open Cloud Mesh API 1.1).
-#[derive(Debug, PartialEq, Eq)]
 pub enum RequestPhase {
     /// The owner's server has not yet answered.
     Asked,

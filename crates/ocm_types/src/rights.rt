@@ -3,7 +3,7 @@ ghost use Rattle.ocm_types.specs.Rights.{has, both, is_within, is_any, perms_fro
 ghost use Rattle.ocm_types.specs.declared.rights.Rights.{Rights};
 ghost use Rattle.ocm_types.specs.declared.rights.Need.{Need};
 
-use ocm_base::{NoMemory, Text};
+use ocm_texts::{NoMemory, Text};
 use std::alloc::Global;
 use std::marker::Model;
 

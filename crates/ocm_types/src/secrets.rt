@@ -3,14 +3,14 @@ ghost use Rattle.ocm_types.specs.Reads.{Gives};
 ghost use Rattle.ocm_types.specs.Texts.{has_length, is_secret, secret_of};
 
 use crate::texts::{TextFault, checked_text};
-use ocm_base::{Copied, NoMemory, Text};
+use ocm_texts::{Copied, NoMemory, Text};
 use std::alloc::Global;
 use std::marker::Model;
 
 /// What the holder of a share shows to reach it: the `sharedSecret` of an offer and of each notification (Open Cloud Mesh
 /// API 1.1). It has 1 to 255 bytes of UTF-8, no control character and no `:`, so that it may stand as the user of HTTP's
 /// basic credentials. Contracts see its bytes.
-#[derive(Debug, PartialEq, Eq, PartialOrd, Ord, Hash)]
+#[derive(PartialEq, Eq, PartialOrd, Ord, Hash)]
 pub struct Secret {
     text: Text,
 }

@@ -2,7 +2,7 @@ ghost use Rattle.std.specs.Prelude.{◌≡◌, ◌↔◌, IfOk, IsErrOf, IsTrue,
 ghost use Rattle.std.specs.List.{list_all};
 ghost use Rattle.ocm_types.specs.Texts as texts;
 
-use ocm_base::Text;
+use ocm_texts::Text;
 use std::alloc::Global;
 
 /// Why a text is no value of its type.

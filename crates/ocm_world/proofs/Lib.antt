@@ -1,15 +1,6 @@
 pub mod Worlds
-pub mod Lines
-pub mod Posts
-pub mod Scripts
-pub mod Properly
-pub mod Acting
 pub mod Loading
 pub mod Storing
 pub mod Shelving
-pub mod Talking
-pub mod Paging
-pub mod Chains
 pub mod Hosts
-pub mod Drilling
 pub mod Logging

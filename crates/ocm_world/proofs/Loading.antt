@@ -31,9 +31,10 @@ use Rattle.ocm_store.specs.declared.terms.Terms.{Terms}
 use Rattle.ocm_store.proofs.Opens.{areas-same, opens-loaded, opens-once}
 use Rattle.ocm_image.proofs.OneImage.{blank_is_none}
 use Rattle.ocm_world.specs.declared.nodes.Node.{Node}
-use Rattle.ocm_world.specs.Servers.{Server, area, crashed, history, kept_by_crash, message_of, new_server}
-use Rattle.ocm_world.specs.Running.{IsDiskOf, IsLoaded, IsOf, IsSound}
-use Rattle.ocm_world.proofs.Acting.{alike-after}
+use Rattle.ocm_world_lines.specs.Servers.{Server, area, crashed, history, kept_by_crash, message_of, new_server}
+use Rattle.ocm_world_lines.specs.Running.{IsSound}
+use Rattle.ocm_world.specs.Running.{IsDiskOf, IsLoaded, IsOf}
+use Rattle.ocm_world_lines.proofs.Acting.{alike-after}
 
 -- what a server opened to with its calls has the lean list of its history
 pub alike-history : (node : Node) (server : Server) (is : IsOf node server) → lean server.host (server.calls ++ is.opened) ≡ lean server.host (history server)

@@ -18,9 +18,9 @@ use Rattle.ocm_store.specs.Acts.{Spends, SpendsNone, StandsLegally}
 use Rattle.ocm_store.specs.Fitting.{session-fits}
 use Rattle.ocm_store.specs.Stores.{IsLegalUnder, Stands, disk_of, host_of, terms_of}
 use Rattle.ocm_world.specs.declared.nodes.Node.{Node}
-use Rattle.ocm_world.specs.Servers.{Server, area, history, reply_of, server_after, with_call}
+use Rattle.ocm_world_lines.specs.Servers.{Server, area, history, reply_of, server_after, with_call}
 use Rattle.ocm_world.specs.Running.{IsOf}
-use Rattle.ocm_world.proofs.Acting.{Tells, no_fault-before, replies, sound-after}
+use Rattle.ocm_world_lines.proofs.Acting.{Tells, no_fault-before, replies, sound-after}
 use Rattle.ocm_world.proofs.Loading.{alike-history, same-host}
 
 abbrev pub MemStore : Type 0

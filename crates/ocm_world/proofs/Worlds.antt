@@ -1,6 +1,6 @@
 -- The server of a host, by its place.
-use Rattle.std.proofs.Common.{◌≡◌, ◌<◌, ◌≤◌, ℕ, zero, suc, List, [], ◌∷◌, ◌++◌, length, get_or, set, Bool, true, false, Option, Some, None, refl, sym, ◌∙◌, ap, subst, arith, if◌then◌else◌, position}
-use Rattle.std.specs.Prelude.{option_map, option_and_then}
+use Rattle.std.proofs.Common.{◌≡◌, ◌<◌, ◌≤◌, ℕ, zero, suc, List, [], ◌∷◌, ◌++◌, length, get_or, set, Bool, true, false, Some, None, refl, sym, ◌∙◌, ap, subst, arith, if◌then◌else◌, position}
+use Rattle.std.specs.Prelude.{option_map}
 use Rattle.std.specs.List.{insert, position_or_len, remove}
 use Rattle.std.proofs.lemmas.List.Quantifiers.{position-Some}
 use Rattle.std.proofs.lemmas.List.Sums.{fails_before_first}
@@ -8,10 +8,10 @@ use Rattle.ocm_entry.specs.declared.asks.Ask.{Ask}
 use Rattle.ocm_entry.specs.declared.replies.Reply.{Reply}
 use Rattle.ocm_rules.specs.Numbers.{same_text}
 use Rattle.ocm_world.specs.declared.nodes.Node.{Node}
-use Rattle.ocm_rules.specs.Lean.{count}
-use Rattle.ocm_world.specs.Servers.{Server, World, asked_at, crashed, history, message_at, message_of, reply_at, reply_of, server_after, server_at, step_at}
-use Rattle.ocm_world.specs.Transcript.{kept_at}
-use Rattle.ocm_world.specs.Running.{AreOf, Asks, IsOf, is_at}
+use Rattle.ocm_world_lines.specs.Servers.{Server, World, reply_of, server_after, server_at, step_at}
+use Rattle.ocm_world_lines.specs.Running.{Asks}
+use Rattle.ocm_world_lines.proofs.Worlds.{asked-nowhere, step-nowhere}
+use Rattle.ocm_world.specs.Running.{AreOf, IsOf, is_at}
 
 -- the server at this place is the first of this host
 record IsFirst (host : List ℕ) (all : List Node) (at : ℕ) (d : Node) : Type 0 where
@@ -79,29 +79,9 @@ found_nowhere host all world are none =
     let le = past (is_at host) all none in
     nowhere host all world are (λ k d h. fails_before_first (is_at host) all k d (omega (arith, h, le)))
 
-none_here : (b : Bool) (server : Server) (found : Option Server) (one : Server) (others after : World) → (found ≡ None → after ≡ others) → (if b then Some server else found) ≡ None → (if b then one ∷ others else server ∷ after) ≡ server ∷ others
-none_here true server found one others after rest e = absurd (cc)
-none_here false server found one others after rest e = ap (λ (w : World). server ∷ w) (rest e)
-
--- where no server has the host, nothing changes
-pub step-nowhere : (step : Server → Server) (world : World) (host : List ℕ) → server_at world host ≡ None → step_at step world host ≡ world
-step-nowhere step [] host none = refl
-step-nowhere step (server ∷ others) host none =
-    none_here (same_text server.host host) server (server_at others host) (step server) others (step_at step others host) (λ e. step-nowhere step others host e) none
-
-pub asked-nowhere : (wanting : Bool) (world : World) (host : List ℕ) (ask : Ask) → server_at world host ≡ None → asked_at wanting world host ask ≡ world
-asked-nowhere wanting world host ask none = step-nowhere (λ server. server_after wanting server ask) world host none
-
-no_reply : (wanting : Bool) (world : World) (host : List ℕ) (ask : Ask) (found : Option Server) → found ≡ server_at world host → None ≡ option_map (λ server. reply_of wanting server ask) found → server_at world host ≡ None
-no_reply wanting world host ask None e none = sym e
-no_reply wanting world host ask (Some server) e none = absurd (cc)
-
-pub asked-unanswered : (wanting : Bool) (world : World) (host : List ℕ) (ask : Ask) → None ≡ reply_at wanting world host ask → asked_at wanting world host ask ≡ world
-asked-unanswered wanting world host ask none = asked-nowhere wanting world host ask (no_reply wanting world host ask (server_at world host) refl none)
-
 -- a server answered
 pub Asks-found : (host : List ℕ) (all : List Node) (world : World) (at : ℕ) (d new : Node) (ask : Ask) (reply : Reply) (here : FoundAt host all world at d)
-    → (wanting : Bool) × (reply ≡ reply_of wanting here.server ask) × IsOf new (server_after wanting here.server ask) → Asks world (set all at new) host ask (Some reply)
+    → (wanting : Bool) × (reply ≡ reply_of wanting here.server ask) × IsOf new (server_after wanting here.server ask) → Asks AreOf world (set all at new) host ask (Some reply)
 Asks-found host all world at d new ask reply here acted = (
   acted.0,
   ap Some acted.1 ∙ sym (ap (option_map (λ server. reply_of acted.0 server ask)) here.there),
@@ -109,7 +89,7 @@ Asks-found host all world at d new ask reply here acted = (
 )
 
 -- there is none
-pub Asks-nowhere : (host : List ℕ) (all : List Node) (world : World) (ask : Ask) → AreOf all world → server_at world host ≡ None → Asks world all host ask None
+pub Asks-nowhere : (host : List ℕ) (all : List Node) (world : World) (ask : Ask) → AreOf all world → server_at world host ≡ None → Asks AreOf world all host ask None
 Asks-nowhere host all world ask are none = (
   false,
   sym (ap (option_map (λ server. reply_of false server ask)) none),
@@ -134,18 +114,6 @@ pub put_again : (all : List Node) (at : ℕ) (new : Node) → at < length all �
 put_again [] at new lt = absurd (omega (arith, lt))
 put_again (node ∷ more) zero new lt = refl
 put_again (node ∷ more) (suc at) new lt = ap (λ l. node ∷ l) (put_again more at new (omega (arith, lt)))
-
-pub message-found : (server : Server) (world : World) (host : List ℕ) (m : ℕ) → server_at world host ≡ Some server → message_of server m ≡ message_at world host m
-message-found server world host m there = sym (ap (λ (found : Option Server). option_and_then (λ (s : Server). message_of s m) found) there)
-
-pub message-nowhere : (world : World) (host : List ℕ) (m : ℕ) → server_at world host ≡ None → None ≡ message_at world host m
-message-nowhere world host m none = sym (ap (λ (found : Option Server). option_and_then (λ (s : Server). message_of s m) found) none)
-
--- how many entries a server keeps after a crash is told of the one of this host
-pub kept-found : (keeps : Bool) (world : World) (host : List ℕ) (server : Server) (number : ℕ) → number ≡ count (crashed keeps server).host (history (crashed keeps server))
-    → server_at world host ≡ Some server → Some number ≡ kept_at keeps world host
-kept-found keeps world host server number is there =
-    ap Some is ∙ sym (ap (option_map (λ (s : Server). count (crashed keeps s).host (history (crashed keeps s)))) there)
 
 pub found-within : (host : List ℕ) (all : List Node) (at : ℕ) (d : Node) → position (is_at host) all ≡ Some at → at < length all
 found-within host all at d e = (position-Some (is_at host) all at d e).0

@@ -1,9 +1,3 @@
-pub mod Asked
-pub mod Servers
-pub mod Deliveries
-pub mod Talks
-pub mod Transcript
 pub mod Shelves
 pub mod Running
-pub mod Drills
 pub mod Traces

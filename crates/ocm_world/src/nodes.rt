@@ -1,12 +1,9 @@
 //! A server of a script, and how it is loaded from its disk.
-ghost use Rattle.std.specs.Prelude.{◌≡◌, Bool, IfOk, IsTrue, None, Some, option_copied};
-ghost use Rattle.ocm_entry.specs.Fitting.{Fits};
-ghost use Rattle.ocm_entry.specs.Proper.{is_proper};
-ghost use Rattle.ocm_rules.specs.History.{kept};
+ghost use Rattle.std.specs.Prelude.{◌≡◌, Bool, IfOk, None, Some, option_copied};
 ghost use Rattle.ocm_rules.specs.Lean.{count};
-ghost use Rattle.ocm_rules.specs.Shares.{moment};
-ghost use Rattle.ocm_world.specs.Running.{IsDiskOf, IsLoaded, IsOf, IsSound, is_at};
-ghost use Rattle.ocm_world.specs.Servers.{Server, crashed, history, message_of, reply_of, server_after};
+ghost use Rattle.ocm_world.specs.Running.{IsDiskOf, IsLoaded, IsOf, is_at};
+ghost use Rattle.ocm_world_lines.specs.Running.{IsSound, state_of};
+ghost use Rattle.ocm_world_lines.specs.Servers.{Server, crashed, history, message_of};
 ghost use Rattle.ocm_store.specs.Stores.{disk_of};
 
 use ocm_base::{NoMemory, and};
@@ -15,6 +12,7 @@ use ocm_entry::{Ask, Object, Reply};
 use ocm_limits::REPLAYED_DISK_BYTES;
 use ocm_store::{LoadFault, Store};
 use ocm_types::{Host, Numbered};
+use ocm_world_lines::ScriptServer;
 use std::alloc::Global;
 
 /// A server of a script: its host, its store, and what the last `clock` line told it, 0 before the first.
@@ -81,21 +79,30 @@ fn no_memory(fault: LoadFault) -> NoMemory
     }
 }
 
+impl ScriptServer for Node {
+    ghost use Rattle.ocm_world.specs.Running.{IsOf};
+
+    ghost stands = { λ node server. IsOf node server };
+
+    fn host(&self) -> &Host {
+        &self.host
+    }
+
+    fn clock(&self) -> u64 {
+        self.clock
+    }
+
+    fn act(&mut self, ask: Ask) -> Reply {
+        self.store.act(ask)
+    }
+}
+
 impl Node {
     /// Whether it is the server of this host.
     pub fn is_at(&self, host: &Host) -> bool
         ensures { result ≡ is_at host.now self.now }
     {
         self.host == *host
-    }
-
-    /// Answers an ask, and makes its change.
-    pub fn act(&mut self, ask: Ask) -> Reply
-        requires { IsTrue (is_proper ask) }
-        ensures replied { (server : Server) → IsOf self.old server → (wanting : Bool) × (result ≡ reply_of wanting server ask) × IsOf self.new (server_after wanting server ask) }
-        ensures fits { (server : Server) → IsOf self.old server → Fits ask result }
-    {
-        self.store.act(ask)
     }
 
     /// The message of this number that it sent. None where there is none.
@@ -112,11 +119,12 @@ impl Node {
         self.store.kept()
     }
 
-    /// The moment of its last tick, in whole seconds since the epoch, and 0 before the first.
-    pub fn moment(&self) -> u64
-        ensures { (server : Server) → IsOf self.now server → result ≡ moment (kept server.host (history server)) }
+    /// How many entries are kept that are no tick, and the moment of its last tick, in whole seconds since
+    /// the epoch, and 0 before the first.
+    pub fn state(&self) -> (u64, u64)
+        ensures { (server : Server) → IsOf self.now server → result ≡ state_of server }
     {
-        self.store.moment()
+        (self.store.kept(), self.store.moment())
     }
 
     /// From now on so many device calls of its disk pass.

@@ -1,18 +1,21 @@
 //! The program `ocmd`: its commands over standard input and standard output.
 #![tactic(auto)]
 
-mod remotes;
-mod servers;
-
-use crate::remotes::{asks_remote, run_remote, told};
-use crate::servers::{asks_serve, run_server};
-use ocm_base::{StdSink, StdSource};
-use ocm_commands::{command, usage};
+use ocm_base::{Sink, Source, StdSink, StdSource};
+use ocm_commands::command;
+use ocm_commands_checks::usage;
+use ocm_commands_network::{asks_remote, asks_serve, run_remote, run_server, told};
 use ocm_disk::Shelf;
 use ocm_serve::StandIns;
-use std::io::ErrorKind;
+use std::alloc::Global;
+use std::fs::File;
+use std::io::{Eprint, ErrorKind};
+use std::net::{Net, TcpListener, TcpStream};
 use std::process::ExitCode;
-use std::{env, io};
+use std::rt::Files;
+use std::sync::Wait;
+use std::thread::Threads;
+use std::{env, io, time};
 
 /// The status where there was no memory for the words.
 const NO_MEMORY: u8 = 5;
@@ -21,26 +24,51 @@ fn main(rt: HostRuntime) -> ExitCode {
     let stand_ins = StandIns::open(&rt);
     let mut source = StdSource::new(rt.reader());
     let mut sink = StdSink::new(io::writer(&rt));
-    let mut shelf = Shelf::new(rt.alloc());
     let status = match words_of(&rt) {
-        Ok(words) if asks_serve(&words) => run_server(&rt, rt.alloc(), &words, &mut sink),
-        Ok(words) if asks_remote(&words) => {
-            let end = run_remote(&rt, rt.alloc(), &words, &mut source, &mut sink);
-            told(&rt, end)
-        }
-        Ok(words) => command(rt.alloc(), &words, &mut source, &mut sink, &mut shelf),
-        Err(e) if e.kind() == ErrorKind::OutOfMemory => NO_MEMORY,
-        Err(_) => usage(&mut sink),
+        Ok(words) => run(&rt, rt.alloc(), &words, &mut source, &mut sink),
+        Err(kind) => without_words(kind, &mut sink),
     };
     drop(stand_ins);
     ExitCode::from(status)
 }
 
 /// The words behind the program's name. A word that is no text is an error.
-fn words_of(rt: &HostRuntime) -> io::Result<Vec<String>> {
-    let mut words = Vec::new(rt.alloc());
-    for word in env::args(rt)?.skip(1) {
-        words.push(word)?;
+fn words_of(rt: &HostRuntime) -> Result<Vec<String>, ErrorKind> {
+    match env::args(rt) {
+        Ok(words) => match words.skip(1).collect(rt.alloc()) {
+            Ok(words) => Ok(words),
+            Err(_) => Err(ErrorKind::OutOfMemory),
+        },
+        Err(e) => Err(e.kind()),
     }
-    Ok(words)
+}
+
+/// Does what the words ask for, and answers the status of the program.
+fn run<
+    R: Threads
+        + Wait
+        + Sync
+        + time::Clock
+        + Files<File = File>
+        + Eprint
+        + Net<Listener = TcpListener, Stream = TcpStream>,
+    S: Source,
+    K: Sink,
+>(rt: &R, alloc: Global, words: &[String], source: &mut S, sink: &mut K) -> u8 {
+    if asks_serve(words) {
+        return run_server(rt, alloc, words, sink);
+    }
+    if asks_remote(words) {
+        return told(rt, run_remote(rt, alloc, words, source, sink));
+    }
+    let mut shelf = Shelf::new(alloc);
+    command(alloc, words, source, sink, &mut shelf)
+}
+
+/// The status where the system gave no words. Unless memory ran out, they are told as words that are no command.
+fn without_words<K: Sink>(kind: ErrorKind, sink: &mut K) -> u8 {
+    if kind == ErrorKind::OutOfMemory {
+        return NO_MEMORY;
+    }
+    usage(sink)
 }

@@ -1,5 +1,5 @@
 use Rattle.std.proofs.Common.{◌∙◌, ap, arith}
-use Rattle.ocm_base.specs.Hex.{hex}
+use Rattle.ocm_texts.specs.Hex.{hex}
 use Rattle.ocm_drill.specs.Federation.{key}
 use Rattle.ocm_drill.proofs.Known.{one_more}
 use Rattle.ocm_drill.proofs.names.keys.Goals as goal

@@ -1,7 +1,7 @@
 use Rattle.std.proofs.Common.{◌≡◌, ◌<◌, ◌^◌, drop, true}
 use Rattle.std.specs.Char.{is_ascii_digit}
 use Rattle.std.specs.List.{list_all}
-use Rattle.ocm_base.specs.Decimal.{number_after}
+use Rattle.ocm_texts.specs.Decimal.{number_after}
 use Rattle.ocm_heads.proofs.lengths.number_of.Given as goal
 
 -- the number that the digits so far write

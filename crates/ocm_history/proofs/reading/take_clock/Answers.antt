@@ -1,4 +1,8 @@
-use Rattle.ocm_history.proofs.Going.{takes-none, takes-tick}
+use Rattle.ocm_entry.specs.declared.asks.Ask.TheVariants.{Tick}
+use Rattle.ocm_history.specs.Histories.{home_of}
+use Rattle.ocm_history.specs.Replays.{GoesOn, with_clock}
+use Rattle.ocm_law_sessions.specs.Readings.{with_ask}
+use Rattle.ocm_history.proofs.Going.{if-ok, takes-asked, takes-none, takes-tick}
 use Rattle.ocm_history.proofs.reading.take_clock.Goals as goal
 
 pub returns-then-clock-moment-clause-goes_on : goal.returns-then-clock-moment-clause-goes_on
@@ -6,4 +10,8 @@ returns-then-clock-moment-clause-goes_on c = takes-none c.args.history.now c.arg
 
 pub returns-clause-goes_on : goal.returns-clause-goes_on
 returns-clause-goes_on c =
-    takes-tick c.args.history.now c.take_moment.new.history c.args.clock c.moment-moment.result c.in_ok-taken.taken c.moment-moment.ensures.history c.if-clock-moment.false c.in_ok-taken.ensures.goes_on
+    let old = c.args.history.now in
+    let new = c.take_tick.new.self in
+    if-ok c.take_tick.result (GoesOn old new (with_ask (home_of old) (Tick c.args.clock))) (GoesOn old new (with_clock (home_of old) c.args.clock))
+    (λ taken goes. takes-tick old new c.args.clock c.moment-moment.result taken c.moment-moment.ensures.history c.if-clock-moment.false goes)
+    (takes-asked old new (Tick c.args.clock) c.take_tick.result c.take_tick.ensures.home c.take_tick.ensures.taken c.take_tick.ensures.goes_on)

@@ -9,11 +9,11 @@ use Rattle.ocm_history.proofs.reading.take_record.Goals as goal
 pub returns-in-Ok-Some-clause-goes_on : goal.returns-in-Ok-Some-clause-goes_on
 returns-in-Ok-Some-clause-goes_on c =
     let old = c.args.history.now in
-    let new = c.take_all_said.new.history in
-    if-ok c.take_all_said.result (GoesOn old new (with_stamped (home_of old) c.in-Ok-Some.said)) (GoesOn old new (λ k. goes_on (home_of old) c.args.form k c.args.raw.now.bytes))
+    let new = c.take_said-taken.new.history in
+    if-ok c.take_said-taken.result (GoesOn old new (with_stamped (home_of old) c.in-Ok-Some.said)) (GoesOn old new (λ k. goes_on (home_of old) c.args.form k c.args.raw.now.bytes))
     (λ taken goes. goes-said old new c.args.form c.args.raw.now.bytes c.in-Ok-Some.said taken
     (ap (stamped_of c.args.form) (sym c.as_slice.ensures) ∙ sym c.in-Ok-Some.ensures.says ∙ c.in-Ok-Some.field-0-is) goes)
-    c.take_all_said.ensures.goes_on
+    c.take_said-taken.ensures.goes_on
 
 pub returns-in-Ok-None-clause-goes_on : goal.returns-in-Ok-None-clause-goes_on
 returns-in-Ok-None-clause-goes_on c =

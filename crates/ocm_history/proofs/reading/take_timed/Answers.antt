@@ -1,7 +1,9 @@
 use Rattle.std.proofs.Common.{subst}
 use Rattle.ocm_history.specs.Histories.{home_of}
 use Rattle.ocm_history.specs.Replays.{GoesOn, with_clock}
-use Rattle.ocm_history.proofs.Going.{goes-nowhere, goes-then}
+use Rattle.ocm_audit.specs.declared.stamps.Stamped.TheVariants.{Timed}
+use Rattle.ocm_law_sessions.specs.Readings.{with_ask, with_stamped}
+use Rattle.ocm_history.proofs.Going.{goes-nowhere, goes-then, if-ok, takes-asked}
 use Rattle.ocm_history.proofs.reading.take_timed.Goals as goal
 
 pub returns-then-not-known-clause-goes_on : goal.returns-then-not-known-clause-goes_on
@@ -11,6 +13,10 @@ returns-then-not-known-clause-goes_on c =
 
 pub returns-clause-goes_on : goal.returns-clause-goes_on
 returns-clause-goes_on c =
-    goes-then c.args.history.now c.take_clock.new.history c.take_ask.new.history c.args.clock c.args.ask.now c.in_ok-taken.taken c.take_clock.ensures.home
-    (subst (λ b. GoesOn c.args.history.now c.take_clock.new.history (with_clock (home_of c.args.history.now) c.args.clock) b) c.if-not-known.false c.in_ok-known.ensures.goes_on)
-    c.in_ok-taken.ensures.goes_on
+    let old = c.args.history.now in
+    let middle = c.take_clock.new.history in
+    let new = c.take.new.self in
+    if-ok c.take.result (GoesOn middle new (with_ask (home_of middle) c.args.ask.now)) (GoesOn old new (with_stamped (home_of old) (Timed c.args.clock c.args.ask.now)))
+    (λ taken goes. goes-then old middle new c.args.clock c.args.ask.now taken c.take_clock.ensures.home
+    (subst (λ b. GoesOn old middle (with_clock (home_of old) c.args.clock) b) c.if-not-known.false c.in_ok-known.ensures.goes_on) goes)
+    (takes-asked middle new c.args.ask.now c.take.result c.take.ensures.home c.take.ensures.taken c.take.ensures.goes_on)

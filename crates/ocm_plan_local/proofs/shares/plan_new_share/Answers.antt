@@ -1,6 +1,6 @@
 use Rattle.std.proofs.Common.{◌≡◌, ℕ, ◌+◌, length, true, false, Some, refl, sym, ap, ◌∙◌, is_some, nat_lt}
 use Rattle.std.proofs.lemmas.List.{length-map}
-use Rattle.ocm_base.specs.Hex.{hex}
+use Rattle.ocm_texts.specs.Hex.{hex}
 use Rattle.ocm_types.specs.declared.phases.Which.TheVariants as limits
 use Rattle.ocm_entry.specs.declared.asks.Cmd.TheVariants as commands
 use Rattle.ocm_entry.specs.declared.refusals.Why.TheVariants.{Collision, NotFound, OwnHost}

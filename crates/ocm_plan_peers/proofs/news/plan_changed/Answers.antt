@@ -18,7 +18,7 @@ returns-then-is_empty c = λ fresh.
     let st = c.args.tables.now.state in
     let v = view_in st in
     let received = ap (λ (m : Mark). is_received v m.id m.secret) (sym c.in_ok-mark.ensures) ∙ (sym c.is_received.ensures ∙ c.if-not-is_received.false) in
-    let told = told_after st c.args.id.now c.args.secret.now c.args.serial c.in_ok-mark.mark c.in_ok-received.received c.in_ok-numbers.numbers c.in_ok-mark.ensures c.in_ok-received.ensures c.in_ok-numbers.ensures in
+    let told = told_after st c.args.id.now c.args.secret.now c.args.serial c.in_ok-mark.mark _ c.in_ok-numbers.numbers c.in_ok-mark.ensures refl c.in_ok-numbers.ensures in
     c.only.ensures.plans _ (changed-by v c.args.id.now c.args.secret.now c.args.serial c.args.perms fresh _ received) (news-none st c.args.id.now c.args.secret.now c.args.serial c.in_ok-numbers.numbers told (grind (arith, nat_tests)))
 
 pub returns : goal.returns
@@ -26,6 +26,6 @@ returns c = λ fresh.
     let st = c.args.tables.now.state in
     let v = view_in st in
     let received = ap (λ (m : Mark). is_received v m.id m.secret) (sym c.in_ok-mark.ensures) ∙ (sym c.is_received.ensures ∙ c.if-not-is_received.false) in
-    let told = told_after st c.args.id.now c.args.secret.now c.args.serial c.in_ok-mark.mark c.in_ok-received.received c.in_ok-numbers.numbers c.in_ok-mark.ensures c.in_ok-received.ensures c.in_ok-numbers.ensures in
+    let told = told_after st c.args.id.now c.args.secret.now c.args.serial c.in_ok-mark.mark _ c.in_ok-numbers.numbers c.in_ok-mark.ensures refl c.in_ok-numbers.ensures in
     c.silent.ensures.plans _ (changed-by v c.args.id.now c.args.secret.now c.args.serial c.args.perms fresh _ received) (news-some st c.args.id.now c.args.secret.now c.args.serial c.in_ok-numbers.numbers told (λ none. grind (arith, nat_tests))) refl
     (changed-makes st c.args.id.now c.args.secret.now fresh c.args.serial c.args.perms c.in_ok-numbers.numbers told) (told-fit st c.args.id.now c.args.secret.now c.args.serial c.in_ok-numbers.numbers told) refl

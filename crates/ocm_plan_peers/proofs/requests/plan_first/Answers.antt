@@ -1,5 +1,5 @@
 use Rattle.std.proofs.Common.{◌∙◌, sym}
-use Rattle.ocm_base.specs.Hex.{hex}
+use Rattle.ocm_texts.specs.Hex.{hex}
 use Rattle.ocm_plan_peers.proofs.requests.plan_first.Goals as goal
 
 pub returns-in-Err : goal.returns-in-Err

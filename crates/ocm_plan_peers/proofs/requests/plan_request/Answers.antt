@@ -1,4 +1,4 @@
-use Rattle.std.proofs.Common.{Some, sym, ◌∙◌}
+use Rattle.std.proofs.Common.{Some, None, sym, ◌∙◌, refl}
 use Rattle.ocm_rules.specs.State.{view_in}
 use Rattle.ocm_plan_peers.proofs.NamedShares.{shared-none, shared-some}
 use Rattle.ocm_plan_peers.proofs.Answering.{child-before, request-by, request-unknown}
@@ -17,3 +17,15 @@ returns-in-Some-child_for c =
     let child = sym c.child_for.ensures ∙ c.in-Some-child_for.is in
     c.plan_repeated.ensures _ (request-by v c.args.id.now c.args.secret.now c.args.with.now c.args.sender_id.now c.args.asked.now c.args.fresh.now c.in-Some.parent found.0 (Some c.in-Some-child_for.child) found.1 child)
     (child-before v c.in-Some.parent c.args.sender_id.now c.in-Some-child_for.child child)
+
+pub plan_first-requires : goal.plan_first-requires
+plan_first-requires c =
+    let found = shared-some (view_in c.args.tables.now.state) c.args.id.now c.args.secret.now c.in-Some.parent (sym c.in-Some.is ∙ c.share_with.ensures) in
+    rw found.3 refl
+
+pub returns-in-None : goal.returns-in-None
+returns-in-None c =
+    let v = view_in c.args.tables.now.state in
+    let found = shared-some v c.args.id.now c.args.secret.now c.in-Some.parent (sym c.in-Some.is ∙ c.share_with.ensures) in
+    let child = sym c.child_for.ensures ∙ c.in-None.is in
+    c.plan_first.ensures c.args.id.now c.args.secret.now found.2 (request-by v c.args.id.now c.args.secret.now c.args.with.now c.args.sender_id.now c.args.asked.now c.args.fresh.now c.in-Some.parent found.0 None found.1 child)

@@ -1,7 +1,6 @@
 use Rattle.std.proofs.Common.{◌≡◌, ◌∙◌, OnOk, codes, ap, subst}
 use Rattle.serde_json.specs.Data.{string, put}
 use Rattle.serde_json.specs.View.{members_view}
-use Rattle.ocm_records.specs.Written.{address_data}
 use Rattle.ocm_records.proofs.offer_json.put_later.Goals as goal
 
 pub returns-clause-members : goal.returns-clause-members

@@ -1,5 +1,5 @@
 use Rattle.std.proofs.Common.{refl}
-use Rattle.ocm_base.proofs.HexLaws.{not_all_hex-from_some}
+use Rattle.ocm_texts.proofs.HexLaws.{not_all_hex-from_some}
 use Rattle.ocm_script.proofs.words.spelled.Goals as goal
 
 pub returns-in-Err-Digit : goal.returns-in-Err-Digit

@@ -5,10 +5,10 @@ use Rattle.ocm_tree.proofs.orders.put_in_place.Goals as goal
 pub returns-clause-nodes : goal.returns-clause-nodes
 returns-clause-nodes c =
     let items = rw c.unwrap.ensures at c.insert.ensures.items in
-    rw items (IsPermutation-insert c.args.order.now.items c.place_for-place.result c.args.node)
+    rw items (IsPermutation-insert c.args.order.now.items c.end_of-place.result c.args.node)
 
 pub returns-clause-sorted : goal.returns-clause-sorted
 returns-clause-sorted c =
     let items = rw c.unwrap.ensures at c.insert.ensures.items in
-    let at = rw c.deref.ensures.value at c.place_for-place.ensures in
-    rw items (IsNonDecreasingBy-insert (λ (node : NumberedNode). node.number) c.args.order.now.items c.place_for-place.result c.args.node c.requires.sorted at.within at.before at.behind)
+    let at = rw c.deref.ensures.value at c.end_of-place.ensures in
+    rw items (IsNonDecreasingBy-insert (λ (node : NumberedNode). node.number) c.args.order.now.items c.end_of-place.result c.args.node c.requires.sorted at.within at.before at.behind)

@@ -1,5 +1,5 @@
 use Rattle.std.proofs.Common.{◌≡◌, ◌++◌, ◌*◌, take, drop, length}
-use Rattle.ocm_base.specs.Hex.{unhex}
+use Rattle.ocm_texts.specs.Hex.{unhex}
 use Rattle.ocm_types.proofs.draws.bytes_of.Given as goal
 
 abbrev pub invariant-loop-i : goal.invariant-loop-i

@@ -1,7 +1,9 @@
-use Rattle.std.proofs.Common.{inr, subst, ◌∙◌}
+use Rattle.std.proofs.Common.{inr, subst, ◌∙◌, List, [], sym}
 use Rattle.std.proofs.lemmas.Result.{err_from_is_err_and}
 use Rattle.ocm_base.specs.Outside.{Appends}
-use Rattle.ocm_world.proofs.Drilling.{DrillsPart-cut}
+use Rattle.ocm_world_lines.proofs.Drilling.{DrillsPart-cut}
+use Rattle.ocm_world.specs.declared.nodes.Node.{Node}
+use Rattle.ocm_world.specs.Running.{AreOf}
 use Rattle.ocm_world.proofs.drills.drill.Goals as goal
 
 pub returns-clause-ok : goal.returns-clause-ok
@@ -17,3 +19,6 @@ returns-in_err-write_all-clause-err g c =
     let p = err_from_is_err_and c.from_residual-in_err-write_all.result c.from_residual-in_err-write_all.ensures.1 in
     let ran = c.in_ok-summary.ensures in
     rw p.1 (inr (DrillsPart-cut c.args.number c.args.events ran.0 ran.1 c.in_ok-summary.summary _ _ ran.2 ran.4 (rw c.as_slice.ensures at c.in_err-write_all.ensures.err)))
+
+pub summarise-requires-clause-none : goal.summarise-requires-clause-none
+summarise-requires-clause-none g c = subst (λ (nodes : List Node). AreOf nodes []) (sym c.new-servers.ensures) tt

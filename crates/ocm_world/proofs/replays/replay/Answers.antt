@@ -1,6 +1,9 @@
+use Rattle.std.proofs.Common.{List, [], sym, subst}
 use Rattle.std.proofs.lemmas.Result.{err_from_is_err_and}
-use Rattle.ocm_world.proofs.Properly.{proper-lines}
-use Rattle.ocm_world.proofs.Scripts.{WritesPart-whole}
+use Rattle.ocm_world_lines.proofs.Properly.{proper-lines}
+use Rattle.ocm_world_lines.proofs.Scripts.{WritesPart-whole}
+use Rattle.ocm_world.specs.declared.nodes.Node.{Node}
+use Rattle.ocm_world.specs.Running.{AreOf}
 use Rattle.ocm_world.proofs.replays.replay.Goals as goal
 
 pub run_events-requires-clause-proper : goal.run_events-requires-clause-proper
@@ -16,3 +19,6 @@ returns-in_err-shelve-clause-err g c =
     let p = err_from_is_err_and c.from_residual-in_err-shelve.result c.from_residual-in_err-shelve.ensures.1 in
     let ran = c.in_ok-run_events.ensures.ok in
     rw p.1 (WritesPart-whole c.args.events.now (g.K.Sink.taken c.args.sink.now) (g.K.Sink.taken c.run_events.new.sink) ran.0 (rw c.as_slice.ensures at ran.1))
+
+pub run_events-requires-clause-none : goal.run_events-requires-clause-none
+run_events-requires-clause-none g c = subst (λ (nodes : List Node). AreOf nodes []) (sym c.new-servers.ensures) tt

@@ -1,10 +1,12 @@
-use Rattle.std.proofs.Common.{inr, sym, ◌∙◌, subst, List, ℕ, Option}
+use Rattle.std.proofs.Common.{inr, sym, ◌∙◌, subst, List, ℕ, Option, []}
 use Rattle.std.specs.Option.{IfSome}
-use Rattle.ocm_base.specs.Hex.{AreBytes}
+use Rattle.ocm_texts.specs.Hex.{AreBytes}
 use Rattle.std.proofs.lemmas.Result.{err_from_is_err_and}
 use Rattle.ocm_world.proofs.Hosts.{image-there}
 use Rattle.ocm_world.proofs.Logging.{TracesPart-cut}
-use Rattle.ocm_world.proofs.Properly.{proper-lines}
+use Rattle.ocm_world_lines.proofs.Properly.{proper-lines}
+use Rattle.ocm_world.specs.declared.nodes.Node.{Node}
+use Rattle.ocm_world.specs.Running.{AreOf}
 use Rattle.ocm_world.proofs.traces.trace.Goals as goal
 
 pub log_events-requires-clause-proper : goal.log_events-requires-clause-proper
@@ -35,3 +37,6 @@ returns-in_err-write_input-clause-err g c =
     rw p.1
     (inr (TracesPart-cut c.args.events.now c.args.host.now c.in_ok-log.log c.in-Some.image.now ran.0 c.shelve.new.shelf _ _ ran.1 (c.in_ok-shelve.ensures ran.0 ran.2) (sym c.in-Some.ensures)
     (rw c.as_slice-2.ensures at c.in_err-write_input.ensures.err)))
+
+pub log_events-requires-clause-none : goal.log_events-requires-clause-none
+log_events-requires-clause-none g c = subst (λ (nodes : List Node). AreOf nodes []) (sym c.new-servers.ensures) tt

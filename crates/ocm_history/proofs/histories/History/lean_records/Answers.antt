@@ -2,12 +2,13 @@ use Rattle.std.proofs.Common.{◌≡◌, ◌+◌, ◌++◌, ◌∷◌, [], Err, 
 use Rattle.std.proofs.lemmas.Result.{err_from_is_err_and}
 use Rattle.std.proofs.Math.Seq.{take-length}
 use Rattle.ocm_image.specs.Layout.{AreRecords}
-use Rattle.ocm_history.specs.declared.faults.RecordFault.TheVariants.{TooLong}
+use Rattle.ocm_history_kept.specs.declared.faults.RecordFault.TheVariants.{TooLong}
 use Rattle.ocm_history.specs.Histories.{home_of}
-use Rattle.ocm_history.specs.Kept.{IsTooLong, bodies_with, is_tick_record, lean_asks, lean_text, lean_texts}
-use Rattle.ocm_history.proofs.Counting.{asks-more, newest-short, older-short}
-use Rattle.ocm_history.proofs.Leaning.{with_record}
-use Rattle.ocm_history.proofs.Memories.{change-lengths, records-done}
+use Rattle.ocm_history_kept.specs.Kept.{IsTooLong, is_tick_record, lean_asks, lean_text, lean_texts}
+use Rattle.ocm_history.specs.Kept.{bodies_with}
+use Rattle.ocm_history_kept.proofs.Counting.{asks-more, newest-short, older-short}
+use Rattle.ocm_history_kept.proofs.Leaning.{with_record}
+use Rattle.ocm_history.proofs.Memories.{body-with, change-lengths, records-done}
 use Rattle.ocm_history.proofs.histories.History.lean_records.Goals as goal
 
 pub loop-place-preserved : goal.loop-place-preserved
@@ -17,7 +18,7 @@ loop-place-preserved c =
       sizes = c.in_ok-add_asked.ensures.sizes c.loop-place.invariant.sizes;
       lean = λ g ask form draft change.
           c.in_ok-add_asked.ensures.text
-          ∙ ap (λ o. with_record (is_tick_record r) c.loop-place.texts (lean_text r o)) (c.body-standing.ensures g ask form draft change)
+          ∙ ap (λ o. with_record (is_tick_record r) c.loop-place.texts (lean_text r o)) (body-with c.args.self.now g ask c.args.planned.now form draft _ _ c.requires.few c.standing-standing.ensures.history change)
           ∙ ap (λ ts. with_record (is_tick_record r) ts (lean_text r (bodies_with (home_of c.args.self.now) g ask (c.loop-place.place + 1)))) (c.loop-place.invariant.lean g ask form draft change)
           ∙ sym (asks-more (bodies_with (home_of c.args.self.now) g ask) c.as_slice-records.result.now c.loop-place.place r (omega arith) c.index-records-place.is);
     }
@@ -33,7 +34,7 @@ returns-in_err-add_asked-clause-not_full c = λ g ask form draft change is wrong
     let long = c.add_asked.ensures.full failed in
     older-short bodies c.as_slice-records.result.now c.args.newest.now c.loop-place.place r (omega arith) c.index-records-place.is long.0
     (subst (λ rs. AreRecords (lean_texts bodies rs c.args.newest.now)) (sym c.as_slice-records.ensures) (change-lengths c.args.self.now g ask c.args.planned.now form draft c.args.newest.now change is))
-    (subst (λ o. IsTooLong (lean_text r o)) (c.body-standing.ensures g ask form draft change) long.1)
+    (subst (λ o. IsTooLong (lean_text r o)) (body-with c.args.self.now g ask c.args.planned.now form draft _ _ c.requires.few c.standing-standing.ensures.history change) long.1)
 
 pub returns-in_err-add_text-clause-not_full : goal.returns-in_err-add_text-clause-not_full
 returns-in_err-add_text-clause-not_full c = λ g ask form draft change is wrong.
@@ -44,13 +45,13 @@ returns-in_err-add_text-clause-not_full c = λ g ask form draft change is wrong.
     let failed : c.add_text.result ≡ Err TooLong = cc (c.in_err-add_text.was) in
     newest-short bodies c.as_slice-records.result.now c.args.newest.now
     (subst (λ rs. AreRecords (lean_texts bodies rs c.args.newest.now)) (sym c.as_slice-records.ensures) (change-lengths c.args.self.now g ask c.args.planned.now form draft c.args.newest.now change is))
-    (subst (λ o. IsTooLong (lean_text c.args.newest.now o)) (c.body-standing-2.ensures g ask form draft change) (c.add_text.ensures.full failed))
+    (subst (λ o. IsTooLong (lean_text c.args.newest.now o)) (body-with c.args.self.now g ask c.args.planned.now form draft _ _ c.requires.few c.standing-standing-2.ensures.history change) (c.add_text.ensures.full failed))
 
 pub returns-clause-lean : goal.returns-clause-lean
 returns-clause-lean c = λ g ask form draft change is.
     let rs = c.as_slice-records.result.now in
     let whole : c.loop-place.place ≡ length rs = omega arith in
     c.in_ok-add_text.ensures.text
-    ∙ ap (λ o. c.loop-place.texts ++ lean_text c.args.newest.now o ∷ []) (c.body-standing-2.ensures g ask form draft change)
+    ∙ ap (λ o. c.loop-place.texts ++ lean_text c.args.newest.now o ∷ []) (body-with c.args.self.now g ask c.args.planned.now form draft _ _ c.requires.few c.standing-standing-2.ensures.history change)
     ∙ records-done c.args.self.now g ask c.args.planned.now form draft c.args.newest.now rs c.loop-place.texts change is c.as_slice-records.ensures
     (c.loop-place.invariant.lean g ask form draft change ∙ ap (lean_asks (bodies_with (home_of c.args.self.now) g ask) 1) (ap (λ n. take n rs) whole ∙ take-length rs))

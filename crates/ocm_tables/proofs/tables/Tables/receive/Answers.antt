@@ -1,4 +1,4 @@
-use Rattle.std.proofs.Common.{ap, List}
+use Rattle.std.proofs.Common.{length, length-append, ap, arith, List}
 use Rattle.ocm_rules.specs.declared.rows.ReceivedRow.{ReceivedRow}
 use Rattle.ocm_rules.specs.State.{State}
 use Rattle.ocm_tables.specs.Tables.{received_row}
@@ -10,6 +10,16 @@ pub receive-number-requires-clause-few : goal.receive-number-requires-clause-few
 receive-number-requires-clause-few c =
     let few = rw (← c.self.view_is) at c.requires.few in
     rw (rows-length c.self.inside.inbox.records c.self.inside.board.told c.self.invariant.each_told) at few
+
+pub invariant_of-self : goal.invariant_of-self
+invariant_of-self c =
+    let told = simp length-append at (ap length c.add.ensures.told) in
+    let records = simp length-append at (ap length c.receive-number.ensures.records) in
+    record {
+      each_told = omega (arith, told, records, c.self.invariant.each_told);
+      owned = c.self.invariant.owned;
+      made = c.self.invariant.made;
+    }
 
 pub returns-clause-state : goal.returns-clause-state
 returns-clause-state c =

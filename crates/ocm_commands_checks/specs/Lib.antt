@@ -1,0 +1,6 @@
+pub mod Lines
+pub mod Words
+pub mod Audits
+pub mod Checks
+pub mod Logchecks
+pub mod Commands

@@ -1,0 +1,17 @@
+//! The commands of the program `ocmd` that check an input and run no server, `audit`, `check` and `logcheck`, beside
+//! `help` and `version`, over any source and sink; and for all commands their words, their input and their statuses.
+#![tactic(auto)]
+
+mod audits;
+mod checks;
+mod commands;
+mod ends;
+mod help;
+mod lines;
+mod logchecks;
+mod words;
+
+pub use commands::{read_input, run_plain, status_of, usage};
+pub use ends::{End, Fault};
+pub use lines::name_line;
+pub use words::{Command, Kind};

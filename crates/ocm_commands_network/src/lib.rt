@@ -1,0 +1,8 @@
+//! The commands `serve` and `dav` of the program `ocmd`, over the network.
+#![tactic(auto)]
+
+mod remotes;
+mod servers;
+
+pub use remotes::{asks_remote, run_remote, told};
+pub use servers::{asks_serve, run_server};

@@ -1,0 +1,6 @@
+pub mod Leaning
+pub mod Fields
+pub mod Growing
+pub mod Counting
+pub mod Drafting
+pub mod Asking

@@ -1,0 +1,92 @@
+-- A server, from its disk as it was handed in to its disk as it comes back.
+use Rattle.std.specs.Prelude.{◌≡◌, ℕ, List, [], Result, Ok, Err}
+use Rattle.ocm_base.specs.Outside.{raised}
+use Rattle.ocm_dav.specs.declared.configs.Config.{Config}
+use Rattle.ocm_disk.specs.declared.disk.Disk.{Ghosts}
+use Rattle.ocm_entry.specs.declared.entries.Entry.{Entry}
+use Rattle.ocm_options.specs.declared.plans.Plan.{Plan}
+use Rattle.ocm_server.specs.Objects.{Begins, Service}
+use Rattle.ocm_server.specs.declared.served.Served.{Served}
+use Rattle.ocm_server.specs.declared.served.Served.TheVariants.{Ended, DoorFault, DiskFault, NotJournal, OtherHost, NoMemory}
+use Rattle.ocm_store.specs.Opening.{IsOfArea, OpensTo, loading}
+use Rattle.ocm_store.specs.Stores.{IsLegalUnder, Stands, area_of, disk_of, host_of, terms_of}
+use Rattle.ocm_store.specs.declared.load_faults.LoadFault.{LoadFault}
+use Rattle.ocm_store.specs.declared.load_faults.LoadFault.TheVariants as loads
+use Rattle.ocm_store.specs.declared.stores.Store.{Store}
+use Rattle.ocm_store.specs.declared.terms.Terms.{Terms}
+use Rattle.ocm_turn.specs.Passes.{Gate, Known}
+use Rattle.ocm_turn.specs.declared.view.Call.{Call}
+
+-- what a server knows of itself by its plan
+abbrev pub config_of : Plan → Config
+config_of plan = record { host = plan.host; admin = plan.admin }
+
+-- why a disk was not loaded, as it is told
+abbrev pub as_served : LoadFault → Served
+as_served (loads.NotJournal place) = NotJournal place
+as_served (loads.OtherHost found) = OtherHost found
+as_served (loads.DiskFault count) = DiskFault count
+as_served loads.NoMemory = NoMemory
+
+-- the workers served, by so many calls, of which so many are their own
+abbrev pub HasServed : Served → ℕ → ℕ → Type 0
+HasServed (Ended calls own) c o = (calls ≡ c) × (own ≡ o)
+HasServed (DoorFault calls own) c o = (calls ≡ c) × (own ≡ o)
+HasServed _ c o = ⊥
+
+-- no worker began
+abbrev pub IsUnserved : Served → Type 0
+IsUnserved (Ended calls own) = ⊥
+IsUnserved (DoorFault calls own) = ⊥
+IsUnserved _ = Unit {0}
+
+-- it is not the disk that was not loaded
+abbrev pub IsLoaded : Served → Type 0
+IsLoaded (DiskFault count) = ⊥
+IsLoaded (NotJournal place) = ⊥
+IsLoaded (OtherHost found) = ⊥
+IsLoaded _ = Unit {0}
+
+-- the disk is told to have failed
+abbrev pub IsDiskFault : Served → Type 0
+IsDiskFault (DiskFault count) = Unit {0}
+IsDiskFault _ = ⊥
+
+-- what is told of the format is what the disk's bytes say
+abbrev pub IsSaid : Result (List Entry) LoadFault → Served → Type 0
+IsSaid says (NotJournal place) = says ≡ Err (loads.NotJournal place)
+IsSaid says (OtherHost found) = says ≡ Err (loads.OtherHost found)
+IsSaid says _ = Unit {0}
+
+-- a fault of the disk is told with its count of faults, which rose
+abbrev pub IsCounted : ℕ → ℕ → Served → Type 0
+IsCounted before now (DiskFault count) = (count ≡ now) × (now ≡ raised before)
+IsCounted before now _ = Unit {0}
+
+-- a disk opens to this list, where it tells its bytes; a new journal would have areas of this size
+abbrev pub IsOpenedTo : {D : Type 0} → Ghosts D → List ℕ → ℕ → D → List Entry → Type 0
+IsOpenedTo disk host area before k = disk.tells → (loading host area (disk.seen before) ≡ Ok k) × OpensTo host area k (disk.seen before)
+
+-- A store was served by so many calls, of which so many are those of its workers, and its disk came back. It stood for a base at first, of
+-- which something is known, and at the end for that base and one history in which the calls of all workers stand; what is known of each
+-- worker is told apart.
+pub record IsServed {D : Type 0} (disk : Ghosts D) (limit : ℕ) (IsBase : List Entry → Type 0) (store : Store D disk) (after : D) (calls own : ℕ) (IsEach : Gate → Known Terms → ℕ → List (List Call) → Type 0) : Type 0 where
+  pub gate : Gate
+  pub first : Known Terms
+  pub left : Store D disk
+  pub begins : Begins limit (terms_of store) gate first
+  pub is_base : IsBase first.base
+  pub stands : Stands disk store first.base []
+  pub lawful : IsLegalUnder first.terms first.base []
+  pub service : Service (λ (s : Store D disk). terms_of s) (Stands disk) IsLegalUnder gate first left calls own (IsEach gate first)
+  pub back : after ≡ disk_of left
+
+-- a server ran by a plan: it knew of itself what the plan says, and the store of its host was loaded from a disk, and served behind what
+-- the disk opens to
+pub record Ran {D : Type 0} (disk : Ghosts D) (plan : Plan) (area limit : ℕ) (before after : D) (calls own : ℕ) (IsEach : Config → Gate → Known Terms → ℕ → List (List Call) → Type 0) : Type 0 where
+  pub config : Config
+  pub config_is : config ≡ config_of plan
+  pub store : Store D disk
+  pub host_is : host_of store ≡ plan.host
+  pub area_is : disk.tells → IsOfArea plan.host area (area_of store) (disk.seen before)
+  pub served : IsServed disk limit (IsOpenedTo disk plan.host area before) store after calls own (IsEach config)

@@ -1,0 +1,12 @@
+//! What a running server takes from the system, and what it tells an administrator.
+//!
+//! No line that it writes holds a key, a secret or anything of a message.
+#![tactic(auto)]
+
+mod notes;
+mod openings;
+mod told_disks;
+
+pub use notes::{Note, tell_end, tell_fault, tell_place};
+pub use openings::{Cause, OpenFault, Opening, StandIns};
+pub use told_disks::ToldDisk;

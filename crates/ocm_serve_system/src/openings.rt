@@ -1,0 +1,231 @@
+ghost use Rattle.std.specs.Prelude.{◌≡◌};
+ghost use Rattle.ocm_serve_system.specs.Statuses.{IsStatus, fault_status};
+
+use ocm_disk::FileDisk;
+use ocm_options::Plan;
+use ocm_sockets::{Entrance, Limits};
+use std::alloc::Global;
+use std::fs::File;
+use std::io::{ErrorKind, Read};
+use std::net::{Net, TcpListener, TcpStream};
+use std::rt::Files;
+use std::sync::{Arc, Wait};
+use std::{fmt, io, time};
+use thiserror::Error;
+
+/// How many connections are open at a time. Beyond them the one that waits for longest is closed.
+const MAX_OPEN: u64 = 8_192;
+
+/// How long a connection rests between two messages, in milliseconds.
+const REST: u64 = 60_000;
+
+/// Files that give nothing and take nothing, on the descriptors of standard input, output and error, where the program was
+/// started without these. The system gives a file the lowest descriptor that is free, so that else the journal's file could
+/// become the standard error, and take what an administrator is told. Where the three are there, these files are others, and
+/// in nobody's way.
+pub struct StandIns {
+    _input: Option<File>,
+    _output: Option<File>,
+    _errors: Option<File>,
+}
+
+impl Drop for StandIns {
+    fn drop(self) {
+        let StandIns {
+            _input: _,
+            _output: _,
+            _errors: _,
+        } = self;
+    }
+}
+
+impl StandIns {
+    /// Opens the three, before any other file or socket is opened.
+    pub fn open<R: Files<File = File>>(rt: &R) -> StandIns {
+        StandIns {
+            _input: nothing(rt),
+            _output: nothing(rt),
+            _errors: nothing(rt),
+        }
+    }
+}
+
+/// The file without content, where the system has it.
+fn nothing<R: Files<File = File>>(rt: &R) -> Option<File> {
+    File::open(rt, "/dev/null").ok()
+}
+
+/// What a server takes from the system before it begins.
+pub struct Opening<'a, R: Wait + time::Clock> {
+    /// The listening socket, and all connections.
+    pub entrance: Arc<Entrance<'a, R>, Global>,
+    /// The disk of the journal. No other server has it.
+    pub disk: FileDisk,
+    /// The key of all drawn values.
+    pub draw_key: [u8; 32],
+}
+
+impl<R: Wait + time::Clock> Drop for Opening<'_, R> {
+    fn drop(self) {
+        let Opening {
+            entrance: _,
+            disk: _,
+            draw_key: _,
+        } = self;
+    }
+}
+
+impl<'a, R: Wait + time::Clock> Opening<'a, R> {
+    /// The disk and the key. The socket stays with the doors that were given it.
+    pub fn into_disk(self) -> (FileDisk, [u8; 32])
+        ensures disk { result.0 ≡ self.entry.disk }
+        ensures key { result.1 ≡ self.entry.draw_key }
+    {
+        let Opening {
+            entrance: _,
+            disk,
+            draw_key,
+        } = self;
+        (disk, draw_key)
+    }
+}
+
+/// What the system said of a file or an address, where that is known: the end of a sentence.
+#[derive(Clone, Copy, Debug, PartialEq, Eq)]
+pub enum Cause {
+    /// It is not there, or a folder above it is not.
+    NotFound,
+    /// The process has no right to it.
+    Denied,
+    /// It is a folder.
+    Folder,
+    /// Another process has it.
+    InUse,
+    /// It is no address of this machine.
+    NotHere,
+    /// What says nothing to an administrator.
+    Other,
+}
+
+impl Cause {
+    /// What an error says.
+    fn of(error: &io::Error) -> Cause {
+        match error.kind() {
+            ErrorKind::NotFound => Cause::NotFound,
+            ErrorKind::PermissionDenied => Cause::Denied,
+            ErrorKind::IsADirectory => Cause::Folder,
+            ErrorKind::AddrInUse => Cause::InUse,
+            ErrorKind::AddrNotAvailable => Cause::NotHere,
+            _ => Cause::Other,
+        }
+    }
+}
+
+impl fmt::Display for Cause {
+    fn fmt<W: fmt::Write>(&self, f: &mut fmt::Formatter<W>) -> fmt::Result {
+        f.write_str(match self {
+            Cause::NotFound => ": there is no such file or folder",
+            Cause::Denied => ": there is no right to it",
+            Cause::Folder => ": it is a folder",
+            Cause::InUse => ": it is in use",
+            Cause::NotHere => ": this machine has no such address",
+            Cause::Other => "",
+        })
+    }
+}
+
+/// Why a server cannot begin.
+#[derive(Clone, Copy, Debug, PartialEq, Eq, Error)]
+pub enum OpenFault {
+    /// The file of draws cannot be opened, or has fewer than 32 bytes.
+    #[error("the key file cannot be read{0}")]
+    KeyFile(Cause),
+    /// The disk's file cannot be opened or made.
+    #[error("the disk's file cannot be opened{0}")]
+    Disk(Cause),
+    /// Another process has the disk's file.
+    #[error("another server has the disk's file")]
+    DiskInUse,
+    /// The address cannot be listened at.
+    #[error("the address cannot be listened at{0}")]
+    Listen(Cause),
+    /// There was no memory.
+    #[error("out of memory")]
+    NoMemory,
+}
+
+impl OpenFault {
+    /// The status with which the program ends: 5 for want of memory, else 12.
+    pub fn status(self) -> u8
+        ensures exact { result ≡ fault_status self }
+        ensures status { IsStatus result }
+    {
+        match self {
+            OpenFault::NoMemory => 5,
+            _ => 12,
+        }
+    }
+}
+
+impl<
+    'a,
+    R: Wait + time::Clock + Files<File = File> + Net<Listener = TcpListener, Stream = TcpStream>,
+> Opening<'a, R> {
+    /// Reads the key, listens, and then opens the disk, as a plan says. Where the key or the address is at fault, no file
+    /// is made.
+    pub fn new(rt: &'a R, alloc: Global, plan: &Plan) -> Result<Opening<'a, R>, OpenFault> {
+        let draw_key = read_key(rt, plan.key_file.as_str()).map_err(key_fault)?;
+        let limits = Limits {
+            connections: plan.connections.saturating_mul(u64::from(plan.workers)),
+            open: MAX_OPEN,
+            rest: REST,
+        };
+        let entrance = Entrance::new(rt, alloc, plan.listen.as_str(), limits).map_err(
+            listen_fault,
+        )?;
+        let Ok(entrance) = Arc::new(alloc, entrance) else {
+            return Err(OpenFault::NoMemory);
+        };
+        match FileDisk::open(rt, plan.disk.as_str()) {
+            Ok(disk) => Ok(Opening {
+                entrance,
+                disk,
+                draw_key,
+            }),
+            Err(error) => {
+                drop(entrance);
+                Err(disk_fault(error))
+            }
+        }
+    }
+}
+
+/// The first 32 bytes of a file.
+fn read_key<R: Files<File = File>>(rt: &R, path: &str) -> io::Result<[u8; 32]> {
+    let mut key = [0u8; 32];
+    let mut file = File::open(rt, path)?;
+    file.read_exact(&mut key)?;
+    Ok(key)
+}
+
+fn key_fault(error: io::Error) -> OpenFault {
+    match error.kind() {
+        ErrorKind::OutOfMemory => OpenFault::NoMemory,
+        _ => OpenFault::KeyFile(Cause::of(&error)),
+    }
+}
+
+fn disk_fault(error: io::Error) -> OpenFault {
+    match error.kind() {
+        ErrorKind::WouldBlock => OpenFault::DiskInUse,
+        ErrorKind::OutOfMemory => OpenFault::NoMemory,
+        _ => OpenFault::Disk(Cause::of(&error)),
+    }
+}
+
+fn listen_fault(error: io::Error) -> OpenFault {
+    match error.kind() {
+        ErrorKind::OutOfMemory => OpenFault::NoMemory,
+        _ => OpenFault::Listen(Cause::of(&error)),
+    }
+}

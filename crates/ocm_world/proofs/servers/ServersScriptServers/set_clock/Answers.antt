@@ -1,0 +1,18 @@
+use Rattle.std.proofs.Common.{◌≡◌, List, get_or, sym, ap, ◌∙◌, subst}
+use Rattle.ocm_world.specs.declared.nodes.Node.{Node}
+use Rattle.ocm_world.specs.Running.{IsOf}
+use Rattle.ocm_world_lines.specs.Servers.{Server}
+use Rattle.ocm_world.proofs.Worlds.{AreOf-nowhere, found_at}
+use Rattle.ocm_world.proofs.servers.ServersScriptServers.set_clock.Goals as goal
+
+pub returns-in_default : goal.returns-in_default
+returns-in_default c = λ world are. AreOf-nowhere (λ (s : Server). record s { clock = c.args.clock }) c.args.host.now c.args.self.now world are (sym c.in_default.ensures)
+
+pub returns : goal.returns
+returns c =
+    rw c.self.view_is
+    (λ world are.
+    let here = found_at c.args.host.now c.args.self.now world c.in-Some.place c.index_mut.result.now are (sym c.in-Some.ensures) in
+    let place : c.index_mut.result.now ≡ get_or c.args.self.now c.in-Some.place c.index_mut.result.now =
+    c.index_mut.ensures.value ∙ ap (λ (l : List Node). get_or l c.in-Some.place c.index_mut.result.now) c.self.view_is in
+    here.stepped c.set_clock.new.self (λ (s : Server). record s { clock = c.args.clock }) (c.set_clock.ensures here.server (subst (λ (n : Node). IsOf n here.server) (sym place) here.of)))
