@@ -1,6 +1,10 @@
 //! The program `ocmd`: its commands over standard input and standard output.
 #![tactic(auto)]
 
+ghost use Rattle.std.specs.Prelude.{◌≡◌, ◌⊎◌};
+ghost use Rattle.ocm_base.specs.Outside.{Appends, AppendsPart, Rose};
+ghost use Rattle.ocm_commands_checks.specs.Commands.{usage_line};
+
 use ocm_base::{Sink, Source, StdSink, StdSource};
 use ocm_commands::command;
 use ocm_commands_checks::usage;
@@ -65,8 +69,15 @@ fn run<
     command(alloc, words, source, sink, &mut shelf)
 }
 
-/// The status where the system gave no words. Unless memory ran out, they are told as words that are no command.
-fn without_words<K: Sink>(kind: ErrorKind, sink: &mut K) -> u8 {
+/// The status where the system gave no words: 5 where memory ran out. Else they are told as words that are no command: 1, or
+/// 4 where the line of the commands could not be written.
+fn without_words<K: Sink>(kind: ErrorKind, sink: &mut K) -> u8
+    ensures one { (result ≡ 1) ⊎ (result ≡ 4) ⊎ (result ≡ 5) }
+    ensures usage_line { result ≡ 1 → Appends (K.taken sink.old) (K.taken sink.new) usage_line }
+    ensures part { result ≡ 4 → AppendsPart (K.taken sink.old) (K.taken sink.new) usage_line }
+    ensures write_fault { result ≡ 4 → Rose (K.faults sink.old) (K.faults sink.new) }
+    ensures unwritten { result ≡ 5 → sink.new ≡ sink.old }
+{
     if kind == ErrorKind::OutOfMemory {
         return NO_MEMORY;
     }
