@@ -228,6 +228,9 @@ is 'all is there' $'hello\n200' "$(ask -u "$alice:" "$dav/docs/x")"
 
 head_line 'a journal that is full'
 journal small.example >small.journal
+printf 'k\n' > good.key
+begin file --host file.example --disk file.journal --admin-file good.key --listen 127.0.0.1:0
+has 'a user by the key in a file' '^[0-9a-f]{32}$' "$(user "$address" k alice)"
 begin small --host small.example --disk small.journal --admin k --listen 127.0.0.1:0
 key=$(user "$address" k u) small=http://$address/dav
 is 'a file' 201 "$(put "$key" "$small/f" "$(head -c 1500 zeros | tr '\0' x)")"
@@ -260,6 +263,9 @@ is 'a second server on the same file' $'12\nocmd: another server has the disk\'s
 is 'an address that is taken' $'12\nocmd: the address cannot be listened at: it is in use' "$(ends taken --host "$a" --disk c.journal --admin k --listen "$a")"
 is 'which makes no file' '' "$(ls c.journal 2>/dev/null)"
 is 'a folder that is not there' $'12\nocmd: the disk\'s file cannot be opened: there is no such file or folder' "$(ends nowhere --host "$a" --disk no/c.journal --admin k --listen 127.0.0.1:0)"
+is 'no file of the administrator' $'12\nocmd: the administrator\'s key file cannot be read: there is no such file or folder' "$(ends noadmin --host "$a" --disk c.journal --admin-file nothing --listen 127.0.0.1:0)"
+printf 'k:k\n' > bad.key
+is 'a file without a key' $'12\nocmd: the administrator\'s key file holds no key: 1 to 255 bytes without a control character or \':\', and at most one line end' "$(ends badadmin --host "$a" --disk c.journal --admin-file bad.key --listen 127.0.0.1:0)"
 is 'no key file' $'12\nocmd: the key file cannot be read: there is no such file or folder' "$(ends nokey --host "$a" --disk c.journal --admin k --listen 127.0.0.1:0 --key-file nothing)"
 printf hello >wrong.journal
 is 'a file that is no journal' $'7\nocmd: the disk is not a journal at 0' "$(ends wrong --host "$a" --disk wrong.journal --admin k --listen 127.0.0.1:0)"
@@ -267,6 +273,8 @@ is 'which stays as it is' hello "$(cat wrong.journal)"
 is 'the journal of another host' $'10\nocmd: the disk is the journal of another host, probe.example' "$(ends other --host other.example --disk probe_a --admin k --listen 127.0.0.1:0)"
 usage=$("$program" serve)
 has 'no words' '^usage: ocmd replay\|' "$usage"
+is 'both options for the key' $'1\n'"$usage" "$(ends words --host a.example --disk j --admin k --admin-file f)"
+is 'none of them' $'1\n'"$usage" "$(ends words --host a.example --disk j)"
 is 'no disk' $'1\n'"$usage" "$(ends words --host a.example --admin k)"
 is 'no workers' $'1\n'"$usage" "$(ends words --host a.example --disk j --admin k --workers 0)"
 is '65 workers' $'1\n'"$usage" "$(ends words --host a.example --disk j --admin k --workers 65)"

@@ -1,4 +1,4 @@
-ghost use Rattle.std.specs.Prelude.{◌≡◌, ℕ, ◌+◌, ◌-◌, ◌<◌, ◌≤◌, min, Some, [], ◌++◌, length, drop, take, IfOk, IsOk, OnOk, IfSome, OnErr, is_err};
+ghost use Rattle.std.specs.Prelude.{◌≡◌, ℕ, ◌+◌, ◌-◌, ◌<◌, ◌≤◌, ◌==◌, min, Some, [], ◌++◌, length, drop, take, IfOk, IsOk, OnOk, IfSome, OnErr, is_err};
 ghost use Rattle.ocm_base.specs.Outside.{Rose, Takes, raised};
 ghost use Rattle.ocm_base.specs.Memory.{is_listed};
 
@@ -57,6 +57,13 @@ impl MemSource {
             calls: 0,
             faults: 0,
         }
+    }
+
+    /// Whether nothing is left.
+    pub fn is_empty(&self) -> bool
+        ensures { result ≡ (length self.now.left == 0) }
+    {
+        self.bytes.as_slice()[self.place..].is_empty()
     }
 }
 

@@ -1,4 +1,4 @@
-use Rattle.std.specs.Prelude.{◌≡◌, ℕ, ◌≤◌, List, filter, map, nat_eq, Bool, true, false, not, ◌&&◌, if◌then◌else◌, Option, Some}
+use Rattle.std.specs.Prelude.{◌≡◌, ℕ, ◌≤◌, List, filter, map, nat_eq, Bool, true, false, not, ◌&&◌, if◌then◌else◌, Option, Some, None, option_and_then, option_map}
 use Rattle.std.specs.Option.{option_map_or}
 use Rattle.ocm_types.specs.declared.rights.Rights.{Rights}
 use Rattle.ocm_types.specs.declared.rights.Need.{Need}
@@ -7,7 +7,7 @@ use Rattle.ocm_entry.specs.declared.rows.Share.{Share}
 use Rattle.ocm_rules.specs.declared.rows.ShareRow.{ShareRow}
 use Rattle.ocm_rules.specs.Equal.{same_rights}
 use Rattle.ocm_rules.specs.Numbers.{at_number, numbers}
-use Rattle.ocm_rules.specs.Shares.{no_rights, is_live_among, effective_among}
+use Rattle.ocm_rules.specs.Shares.{no_rights, is_live_among, effective_among, share_of_secret}
 use Rattle.ocm_rules.specs.State.{row_goes_on}
 use Rattle.ocm_chain.specs.declared.answers.Access.{Access}
 use Rattle.ocm_chain.specs.declared.answers.Access.TheVariants.{Granted, Closed, Denied}
@@ -18,6 +18,11 @@ pub record ChainLists : Type 0 where
   pub moment : ℕ
   pub shares : List ShareRow
   pub room : ℕ
+
+-- how many steps were taken at the index of secrets, and how many at the rows
+pub record ProbeCounts : Type 0 where
+  pub index : ℕ
+  pub rows : ℕ
 
 -- the shares as they were made
 abbrev pub made_of : List ShareRow → List Share
@@ -46,6 +51,14 @@ effective_at shares i = effective_among (made_of shares) (perms_at shares) i
 -- what is answered to one who needs a right, by whether the share is live and what it lets its guest do
 abbrev pub access_by : Bool → Rights → Need → Access
 access_by live rights need = if live then (if has rights need then Granted else Denied) else Closed
+
+-- the share of this number, where it is live, and what it lets its guest do
+abbrev pub guest_at : ℕ → List ShareRow → ℕ → Option (Share × Rights)
+guest_at moment shares i = if is_live_at moment shares i then option_map (λ (share : Share). (share, effective_at shares i)) (at_number (made_of shares) i) else None
+
+-- the live share with this secret, and what it lets its guest do
+abbrev pub guest_with : ℕ → List ShareRow → List ℕ → Option (Share × Rights)
+guest_with moment shares secret = option_and_then (guest_at moment shares) (share_of_secret (made_of shares) secret)
 
 -- whether a share would be live, were this one closed
 abbrev pub is_live_without : ℕ → List ShareRow → ℕ → ℕ → Bool

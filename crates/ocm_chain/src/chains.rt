@@ -1,4 +1,4 @@
-ghost use Rattle.std.specs.Prelude.{◌≡◌, ◌<◌, ◌≤◌, ◌+◌, ◌*◌, ◌^◌, ◌-◌, ◌++◌, ◌∷◌, [], length, true, Some, None, OnOk, IfOk, option_copied};
+ghost use Rattle.std.specs.Prelude.{◌≡◌, ◌<◌, ◌≤◌, ◌+◌, ◌*◌, ◌^◌, ◌-◌, ◌++◌, ◌∷◌, [], length, true, Some, None, OnOk, IfOk, IfSome, option_copied, option_map};
 ghost use Rattle.ocm_limits.specs.Limits.{most_shares};
 ghost use Rattle.ocm_rules.specs.declared.rows.ShareRow.{ShareRow};
 ghost use Rattle.ocm_rules.specs.Answers.{is_for_request};
@@ -9,10 +9,11 @@ ghost use Rattle.ocm_rules.specs.State.{changed_at, new_share_row};
 use crate::answers::{Access, Change};
 use crate::owners::OwnerIndex;
 use crate::plans::PlannedShare;
+use crate::reaches::Row;
 use crate::requests::RequestIndex;
 use crate::rows::Rows;
 use crate::secrets::SecretIndex;
-use crate::steps::Steps;
+use crate::steps::{Probes, Steps};
 use ocm_base::{List, NoMemory};
 use ocm_entry::Share;
 use ocm_types::{Need, Perms, Rights, Secret, SenderId};
@@ -60,7 +61,9 @@ impl Model for Chain {
 }
 
 impl Chain {
-    ghost use Rattle.ocm_chain.specs.Lists.{made_of, perms_at, is_live_at, effective_at, access_by, owned_by, cut_by, changes_by, IsAmongFirst};
+    ghost use Rattle.ocm_chain.specs.Lists.{made_of, perms_at, is_live_at, effective_at, access_by, owned_by, cut_by, changes_by, IsAmongFirst, guest_at, guest_with};
+    ghost use Rattle.ocm_chain.specs.Reaches.{reach_at};
+    ghost use Rattle.ocm_chain.specs.declared.reaches.Row.{Row};
 
     /// No shares, at moment 0.
     pub fn new(alloc: Global) -> Chain
@@ -87,10 +90,44 @@ impl Chain {
     pub fn share(&self, id: u32) -> Option<&Share>
         ensures { option_copied result ≡ at_number (made_of self.now.shares) id }
     {
-        match self.rows.get(id) {
+        match self.get(id) {
             Some(row) => Some(&row.own.share),
             None => None,
         }
+    }
+
+    // The row of this number, where there is one, with a count that nobody reads.
+    fn get(&self, id: u32) -> Option<&Row>
+        ensures own { option_map (λ (row : Row). row.own) (option_copied result) ≡ at_number self.now.shares id }
+        ensures reach { IfSome result (λ row. row.now.reach ≡ reach_at self.now.shares id) }
+    {
+        if id == 0 || id > self.rows.len() {
+            return None;
+        }
+        Some(self.at(id))
+    }
+
+    // The row of a number that is there, with a count that nobody reads.
+    fn at(&self, id: u32) -> &Row
+        requires low { 1 ≤ id }
+        requires high { id ≤ length self.now.shares }
+        ensures own { at_number self.now.shares id ≡ Some result.now.own }
+        ensures reach { result.now.reach ≡ reach_at self.now.shares id }
+    {
+        self.at_from::<Brand>(id, Blank::new(1))
+    }
+
+    fn at_from<L: Ledger>(&self, id: u32, blank: Blank) -> &Row
+        requires low { 1 ≤ id }
+        requires high { id ≤ length self.now.shares }
+        requires name { blank.name ≡ L.name }
+        requires parts { blank.parts ≡ L.parts }
+        requires some { 0 < L.parts }
+        ensures own { at_number self.now.shares id ≡ Some result.now.own }
+        ensures reach { result.now.reach ≡ reach_at self.now.shares id }
+    {
+        let mut steps = Steps::open(blank);
+        self.rows.read::<L>(id, &mut steps)
     }
 
     /// The number of the share with this secret.
@@ -149,7 +186,7 @@ impl Chain {
         requires high { id ≤ length self.now.shares }
         ensures { result ≡ perms_at self.now.shares id }
     {
-        self.rows.at(id).own.perms
+        self.at(id).own.perms
     }
 
     /// What a share lets its guest do: its own permissions, cut down to those of every share above it.
@@ -158,7 +195,7 @@ impl Chain {
         requires high { id ≤ length self.now.shares }
         ensures { result ≡ effective_at self.now.shares id }
     {
-        self.rows.at(id).reach.effective
+        self.at(id).reach.effective
     }
 
     /// Whether the share of this number is live: it is there, and neither it nor one above it is
@@ -166,7 +203,7 @@ impl Chain {
     pub fn is_live(&self, id: u32) -> bool
         ensures { result ≡ is_live_at self.now.moment self.now.shares id }
     {
-        match self.rows.get(id) {
+        match self.get(id) {
             Some(row) => row.reach.goes_on(self.moment),
             None => false,
         }
@@ -204,6 +241,38 @@ impl Chain {
     {
         let reach = self.rows.read(id, steps).reach;
         Access::of(reach.goes_on(self.moment), reach.effective, need)
+    }
+
+    /// The live share with this secret, and what it lets its guest do. It looks at b places of the
+    /// index of secrets at most, where 2 to the power of b is at most one more than twice the shares,
+    /// and at one row at most, at any depth.
+    pub fn guest_counted<I: Ledger, R: Ledger>(
+        &self,
+        secret: &Secret,
+        probes: &mut Probes<I, R>,
+    ) -> Option<(&Share, Rights)>
+        ensures guest { option_map (λ found. (found.0.now, found.1)) result ≡ guest_with self.now.moment self.now.shares secret.now }
+        ensures index { 2 ^ (probes.new.index - probes.old.index) ≤ 2 * length self.now.shares + 1 }
+        ensures rows { probes.new.rows ≤ probes.old.rows + 1 }
+        ensures onward { (probes.old.index ≤ probes.new.index) × (probes.old.rows ≤ probes.new.rows) }
+    {
+        let id = self.find_counted(secret, &mut probes.index)?;
+        self.granted_counted(id, &mut probes.rows)
+    }
+
+    // The share of this number, where it is live, and what it lets its guest do, in one step at most.
+    fn granted_counted<L: Ledger>(&self, id: u32, steps: &mut Steps<L>) -> Option<(&Share, Rights)>
+        requires low { 1 ≤ id }
+        requires high { id ≤ length self.now.shares }
+        ensures guest { option_map (λ found. (found.0.now, found.1)) result ≡ guest_at self.now.moment self.now.shares id }
+        ensures cost { steps.new ≤ steps.old + 1 }
+        ensures onward { steps.old ≤ steps.new }
+    {
+        let row = self.rows.read(id, steps);
+        if !row.reach.goes_on(self.moment) {
+            return None;
+        }
+        Some((&row.own.share, row.reach.effective))
     }
 
     /// The numbers of the live shares that closing this one takes, ascending, its own first where it

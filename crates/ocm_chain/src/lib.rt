@@ -23,4 +23,4 @@ pub use plans::{PlannedShare, plan_share};
 pub use reaches::{Reach, Row};
 pub use rows::Rows;
 pub use secrets::SecretIndex;
-pub use steps::Steps;
+pub use steps::{Probes, Steps};

@@ -1,4 +1,4 @@
-ghost use Rattle.std.specs.Prelude.{◌≡◌, ◌<◌, ◌≤◌, ◌+◌, ◌++◌, ◌∷◌, [], length, true, false, Some, OnOk, IfOk, IfSome, option_copied, option_map};
+ghost use Rattle.std.specs.Prelude.{◌≡◌, ◌<◌, ◌≤◌, ◌+◌, ◌++◌, ◌∷◌, [], length, true, false, Some, OnOk, IfOk};
 ghost use Rattle.ocm_limits.specs.Limits.{most_shares};
 ghost use Rattle.ocm_types.specs.declared.rights.Rights.{Rights};
 ghost use Rattle.ocm_rules.specs.declared.rows.ShareRow.{ShareRow};
@@ -65,19 +65,8 @@ impl Rows {
         self.rows.len() as u32
     }
 
-    // The row of this number, where there is one.
-    pub(crate) fn get(&self, id: u32) -> Option<&Row>
-        ensures own { option_map (λ (row : Row). row.own) (option_copied result) ≡ at_number self.now.shares id }
-        ensures reach { IfSome result (λ row. row.now.reach ≡ reach_at self.now.shares id) }
-    {
-        if id == 0 || id > self.len() {
-            return None;
-        }
-        Some(self.at(id))
-    }
-
     // The row of a number that is there.
-    pub(crate) fn at(&self, id: u32) -> &Row
+    fn at(&self, id: u32) -> &Row
         requires low { 1 ≤ id }
         requires high { id ≤ length self.now.shares }
         ensures own { at_number self.now.shares id ≡ Some result.now.own }
@@ -87,7 +76,7 @@ impl Rows {
         &self.rows[id as usize - 1]
     }
 
-    /// The row of a number that is there. It is one step.
+    /// The row of a number that is there. It is one step, and no other call gives a row away.
     pub fn read<L: Ledger>(&self, id: u32, steps: &mut Steps<L>) -> &Row
         requires low { 1 ≤ id }
         requires high { id ≤ length self.now.shares }

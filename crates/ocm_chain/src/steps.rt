@@ -40,3 +40,43 @@ impl<L: Ledger> Steps<L> {
         self.book.add(&mut self.share, 1);
     }
 }
+
+/// How many steps were taken at the index of secrets, and how many at the rows. It takes no bytes and
+/// does nothing at run time: only contracts see the numbers.
+pub struct Probes<I: Ledger, R: Ledger> {
+    pub(crate) index: Steps<I>,
+    pub(crate) rows: Steps<R>,
+}
+
+impl<I: Ledger, R: Ledger> Drop for Probes<I, R> {
+    fn drop(self) {
+        let Probes { index: _, rows: _ } = self;
+    }
+}
+
+impl<I: Ledger, R: Ledger> Model for Probes<I, R> {
+    ghost use Rattle.ocm_chain.specs.Lists.{ProbeCounts};
+
+    ghost Value = { ProbeCounts };
+
+    ghost view = { λ p. record { index = p.index; rows = p.rows } };
+}
+
+impl<I: Ledger, R: Ledger> Probes<I, R> {
+    /// No steps, of the ledgers of these blanks.
+    pub fn open(index: Blank, rows: Blank) -> Probes<I, R>
+        requires index_name { index.name ≡ I.name }
+        requires index_parts { index.parts ≡ I.parts }
+        requires some_index { 0 < I.parts }
+        requires rows_name { rows.name ≡ R.name }
+        requires rows_parts { rows.parts ≡ R.parts }
+        requires some_rows { 0 < R.parts }
+        ensures index { result.index ≡ 0 }
+        ensures rows { result.rows ≡ 0 }
+    {
+        Probes {
+            index: Steps::open(index),
+            rows: Steps::open(rows),
+        }
+    }
+}

@@ -21,10 +21,11 @@ KIND is discovery, offer, notice or error. VERB is get, put, delete, mkcol or
 list. EVENTS is at most 90000. What is read is the standard input, and what is
 written the standard output.
 
-Options of serve, of which the first three have to be there:
+Options of serve; host, disk and one of the two for the key have to be there:
   --host HOST            the server's name, with :PORT where that is not 80
   --disk FILE            the journal's file
   --admin KEY            the administrator's key
+  --admin-file FILE      the file that holds it, in place of --admin
   --listen ADDRESS       where to listen; default 127.0.0.1:8080
   --workers NUMBER       how many threads, 1 to 64; default 4
   --key-file FILE        32 random bytes; default /dev/urandom

@@ -4,5 +4,6 @@
 mod remotes;
 mod servers;
 
+pub use ocm_options::asks_serve;
 pub use remotes::{asks_remote, run_remote, told};
-pub use servers::{asks_serve, run_server};
+pub use servers::run_server;

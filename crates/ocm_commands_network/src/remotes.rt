@@ -2,22 +2,24 @@
 ghost use Rattle.std.specs.Prelude.{◌≡◌, ◌⊎◌, map};
 ghost use Rattle.std.specs.String.{string_bytes};
 ghost use Rattle.ocm_base.specs.Outside.{Appends, Rose};
+ghost use Rattle.ocm_commands_network.specs.Words as specified;
 ghost use Rattle.ocm_remote.specs.Answers.{status_of};
 ghost use Rattle.ocm_remote.specs.Exchanges.{AsksPut};
 ghost use Rattle.ocm_remote.specs.Words.{IsOther, usage_line};
 
 use ocm_base::{Sink, Source};
-use ocm_network::TcpDial;
+use ocm_network::ClientDial;
 use ocm_remote::{End, remote};
-use ocm_sockets::Pauses;
 use std::alloc::Global;
 use std::io::Eprint;
 use std::net::{Net, TcpListener, TcpStream};
-use std::sync::{Arc, Wait};
+use std::sync::Wait;
 use std::time;
 
 /// Whether the words behind the program's name ask for a request to a server.
-pub fn asks_remote(words: &[String]) -> bool {
+pub fn asks_remote(words: &[String]) -> bool
+    ensures { result ≡ specified.asks_remote (map (λ word. string_bytes word) words.now) }
+{
     match words {
         [word, ..] => word.as_str() == "dav",
         [] => false,
@@ -37,13 +39,8 @@ pub fn run_remote<
     ensures read_fault { result ≡ End.ReadFault → Rose (S.faults source.old) (S.faults source.new) }
     ensures write_fault { result ≡ End.WriteFault → Rose (K.faults sink.old) (K.faults sink.new) }
 {
-    match Arc::new(alloc, Pauses::new(alloc)) {
-        Ok(pauses) => {
-            let mut dial = TcpDial::new(rt, pauses);
-            remote(alloc, words, source, sink, &mut dial)
-        }
-        Err(_) => End::NoMemory,
-    }
+    let mut dial = ClientDial::new(rt);
+    remote(alloc, words, source, sink, &mut dial)
 }
 
 /// Tells on standard error how `dav` ended where nothing on standard output tells it, and answers the status of the program.

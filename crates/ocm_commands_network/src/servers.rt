@@ -1,14 +1,15 @@
 //! The command `serve`.
-ghost use Rattle.std.specs.Prelude.{◌≡◌, ◌⊎◌, None};
+ghost use Rattle.std.specs.Prelude.{◌≡◌, ◌⊎◌, ◌≤◌, None};
 ghost use Rattle.ocm_base.specs.Outside.{Appends, Rose};
-ghost use Rattle.ocm_options.specs.Plans.{plan_of, texts};
+ghost use Rattle.ocm_options.specs.Plans.{orders_of, texts};
 ghost use Rattle.ocm_serve_system.specs.Statuses.{IsStatus};
 ghost use Rattle.ocm_commands_checks.specs.Commands.{usage_line};
 
 use ocm_base::Sink;
 use ocm_commands_checks::usage;
-use ocm_options::{PlanFault, read_plan};
+use ocm_options::{Orders, PlanFault, read_plan};
 use ocm_serve::run;
+use ocm_serve_system::{read_admin, tell_fault};
 use std::alloc::Global;
 use std::fs::File;
 use std::io::Eprint;
@@ -18,18 +19,10 @@ use std::sync::Wait;
 use std::thread::Threads;
 use std::time;
 
-/// The status where there was no memory for a plan.
+/// The status where there was no memory for the words.
 const NO_MEMORY: u8 = 5;
 
-/// Whether the words behind the program's name ask for a running server.
-pub fn asks_serve(words: &[String]) -> bool {
-    match words {
-        [word, ..] => word.as_str() == "serve",
-        [] => false,
-    }
-}
-
-/// Runs the server that the words ask for, and answers the status of the program. For words that are no plan it tells the
+/// Runs the server that the words order, and answers the status of the program. For words that order none it tells the
 /// commands: 1, or 4 where that could not be written.
 pub fn run_server<
     R: Threads
@@ -43,15 +36,38 @@ pub fn run_server<
 >(rt: &R, alloc: Global, words: &[String], sink: &mut K) -> u8
     ensures status { (result ≡ 1) ⊎ (result ≡ 4) ⊎ IsStatus result }
 
-    // 1, or 4 where the line of the commands could not be written: the words are no plan
-    ensures other_words { plan_of (texts words.now) ≡ None → (result ≡ 1) ⊎ (result ≡ 4) ⊎ (result ≡ 5) }
-    ensures no_plan { result ≡ 1 → plan_of (texts words.now) ≡ None }
+    // 1, or 4 where the line of the commands could not be written: the words order no server
+    ensures other_words { orders_of (texts words.now) ≡ None → (result ≡ 1) ⊎ (result ≡ 4) ⊎ (result ≡ 5) }
+    ensures no_orders { result ≡ 1 → orders_of (texts words.now) ≡ None }
     ensures usage_line { result ≡ 1 → Appends (K.taken sink.old) (K.taken sink.new) usage_line }
     ensures write_fault { result ≡ 4 → Rose (K.faults sink.old) (K.faults sink.new) }
 {
     match read_plan(alloc, words) {
-        Ok(plan) => run(rt, alloc, &plan),
+        Ok(orders) => run_orders(rt, alloc, orders),
         Err(PlanFault::Usage) => usage(sink),
         Err(PlanFault::NoMemory) => NO_MEMORY,
+    }
+}
+
+/// Runs the server of these orders, with the administrator's key that they have or name, and answers the status of the
+/// program.
+fn run_orders<
+    R: Threads
+        + Wait
+        + Sync
+        + time::Clock
+        + Files<File = File>
+        + Eprint
+        + Net<Listener = TcpListener, Stream = TcpStream>,
+>(rt: &R, alloc: Global, orders: Orders) -> u8
+    requires workers { 1 ≤ orders.workers }
+    ensures { IsStatus result }
+{
+    match read_admin(rt, alloc, &orders.admin) {
+        Ok(admin) => run(rt, alloc, &orders.plan(admin)),
+        Err(fault) => {
+            drop(orders);
+            tell_fault(rt, fault)
+        }
     }
 }

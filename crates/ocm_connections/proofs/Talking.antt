@@ -4,7 +4,7 @@ use Rattle.std.specs.Prelude.{◌^◌, min, option_map, IsTrue, IfSome, IfNone}
 use Rattle.ocm_base.specs.Outside.{Appends, Takes, Rose}
 use Rattle.ocm_entry.specs.declared.entries.Entry.{Entry}
 use Rattle.ocm_http.specs.Places.{past}
-use Rattle.ocm_http.specs.Frames.{Frame, Given, Refused, Over}
+use Rattle.ocm_http.specs.Frames.{Frame, Given, Refused, Over, IsFrame}
 use Rattle.ocm_http.specs.Readers.{ReaderState}
 use Rattle.ocm_http.specs.declared.messages.Kind.TheVariants.{Requests}
 use Rattle.ocm_heads.specs.declared.fields.Head.{Head}
@@ -105,7 +105,6 @@ module _ {Terms : Type 0} where
     shows = record {
       read_rose = λ h. rose_later s.sides.read_faults t.sides.read_faults u.sides.read_faults p.does.read_faults (q.shows.read_rose h);
       write_rose = λ h. rose_later s.sides.write_faults t.sides.write_faults u.sides.write_faults p.does.write_faults (q.shows.write_rose h);
-      rests = q.shows.rests;
       spent = q.shows.spent;
     };
     cause = q.cause;
@@ -167,14 +166,13 @@ module _ {Terms : Type 0} where
           unspent = λ h. served.unspent (unspent_by f.failed (ending_after number message) served.answer f.written ending f.is h);
           ended = false;
           is_end = λ h. absurd (false_true h);
-          shown = record { read_rose = false; write_rose = f.failed; rests = false; spent = is_spent served.answer };
+          shown = record { read_rose = false; write_rose = f.failed; spent = is_spent served.answer };
           shows = record {
             read_rose = λ h. absurd (false_true h);
             write_rose = λ h. rose_later old.sides.write_faults middle.write_faults new.sides.write_faults read.write_faults (f.rose h);
-            rests = λ h. absurd (false_true h);
             spent = served.spent;
           };
-          cause = ends_cause (record { read_rose = false; write_rose = f.failed; rests = false; spent = is_spent served.answer }) number message served.answer f.written ending f.is refl;
+          cause = ends_cause (record { read_rose = false; write_rose = f.failed; spent = is_spent served.answer }) number message served.answer f.written ending f.is refl;
           talk = talks.last number reader.place (reader.held ++ got) after.held false message served.fresh served.now served.calls served.answer f.written ending gives.frame served.answers f.is refl;
         }
 
@@ -197,11 +195,10 @@ module _ {Terms : Type 0} where
         → Wrote middle final written → IsEnd middle ended
         → (IsTrue shown.read_rose → Rose old.sides.read_faults final.read_faults)
         → (IsTrue shown.write_rose → Rose middle.write_faults final.write_faults)
-        → (IsTrue shown.rests → final.left ≡ None)
         → (IsTrue shown.spent → ⊥)
         → Stops shown reader.place (reader.held ++ got) ended written ending
         → TalkedFrom config limit (stand number reader) old (state final old.draw old.clock old.pass) ending
-    talked_silent written ended shown ending wrote is_end read_rose write_rose rests spent stops = record {
+    talked_silent written ended shown ending wrote is_end read_rose write_rose spent stops = record {
       deeds = record { read = got; drawn = []; clocks = []; calls = []; written = written };
       does = quiet old middle final got written read wrote;
       unspent = λ h. unspent_nothing limit old.pass;
@@ -211,7 +208,6 @@ module _ {Terms : Type 0} where
       shows = record {
         read_rose = read_rose;
         write_rose = λ h. rose_later old.sides.write_faults middle.write_faults final.write_faults read.write_faults (write_rose h);
-        rests = rests;
         spent = λ h. absurd (spent h);
       };
       cause = stops_cause shown reader.place (reader.held ++ got) ended written ending stops;
@@ -220,13 +216,13 @@ module _ {Terms : Type 0} where
 
     -- what a connection shows that only wrote
     abbrev wrote_only : Bool → Shown
-    wrote_only failed = record { read_rose = false; write_rose = failed; rests = false; spent = false }
+    wrote_only failed = record { read_rose = false; write_rose = failed; spent = false }
 
     only_wrote : (written : List ℕ) (ended failed : Bool) (ending : Ended) → Wrote middle final written → IsEnd middle ended → (IsTrue failed → Rose middle.write_faults final.write_faults)
         → Stops (wrote_only failed) reader.place (reader.held ++ got) ended written ending
         → TalkedFrom config limit (stand number reader) old (state final old.draw old.clock old.pass) ending
     only_wrote written ended failed ending wrote is_end rose stops =
-        talked_silent written ended (wrote_only failed) ending wrote is_end (λ h. absurd (false_true h)) rose (λ h. absurd (false_true h)) false_true stops
+        talked_silent written ended (wrote_only failed) ending wrote is_end (λ h. absurd (false_true h)) rose false_true stops
 
     stops_at : (at : ℕ) (ended failed : Bool) (written : List ℕ) (fault : FrameFault) (ending : Ended) → place_of fault ≡ Some at → IsRequests reader.place (reader.held ++ got) ended (Refused fault)
         → RefusesAt at ending failed written → Stops (wrote_only failed) reader.place (reader.held ++ got) ended written ending
@@ -255,9 +251,9 @@ module _ {Terms : Type 0} where
         only_wrote w.written gives.0 w.failed ending w.wrote gives.1 w.rose
         (subst (λ (x : Ended). Stops (wrote_only w.failed) reader.place (reader.held ++ got) gives.0 w.written x) (sym w.is.0) (w.is.1, gives.2))
     talked_fault faults.ReadFault ending gives w =
-        let shown : Shown = record { read_rose = true; write_rose = w.failed; rests = false; spent = false } in
+        let shown : Shown = record { read_rose = true; write_rose = w.failed; spent = false } in
         talked_silent w.written false shown ending w.wrote (λ h. absurd (false_true h))
-        (λ h. rose_before old.sides.read_faults middle.read_faults final.read_faults gives w.wrote.read_faults) w.rose (λ h. absurd (false_true h)) false_true
+        (λ h. rose_before old.sides.read_faults middle.read_faults final.read_faults gives w.wrote.read_faults) w.rose false_true
         (subst (λ (x : Ended). Stops shown reader.place (reader.held ++ got) false w.written x) (sym w.is.0) (w.is.1, refl))
     talked_fault faults.NoMemory ending gives w =
         only_wrote w.written false w.failed ending w.wrote (λ h. absurd (false_true h)) w.rose
@@ -269,17 +265,7 @@ module _ {Terms : Type 0} where
       → TalkedFrom config limit (stand number reader) old (state final old.draw old.clock old.pass) endings.Closed
   unfolding Stops
   talked_over config limit number reader old final got read is_end frame =
-      only_wrote config limit number reader old final final got read [] true false endings.Closed (wrote_nothing final) is_end (λ h. absurd (false_true h)) (refl, inl frame)
-
-  -- a connection rests
-  pub talked_rests : (config : Config) (limit number : ℕ) (reader : ReaderState) (old : State Terms) (final : Sides) → final ≡ old.sides → old.sides.left ≡ None → reader.held ≡ []
-      → TalkedFrom config limit (stand number reader) old (state final old.draw old.clock old.pass) endings.Closed
-  unfolding Stops
-  talked_rests config limit number reader old final same none empty =
-      let shown : Shown = record { read_rose = false; write_rose = false; rests = true; spent = false } in
-      talked_silent config limit number reader old final final [] (read_nothing old.sides final same) [] false shown endings.Closed (wrote_nothing final) (λ h. absurd (false_true h))
-      (λ h. absurd (false_true h)) (λ h. absurd (false_true h)) (λ h. ap (λ (s : Sides). s.left) same ∙ none) false_true
-      (refl, inr (refl, append-nil reader.held ∙ empty))
+      only_wrote config limit number reader old final final got read [] true false endings.Closed (wrote_nothing final) is_end (λ h. absurd (false_true h)) (refl, frame)
 
   -- no memory for a reader
   pub talked_none : (config : Config) (limit : ℕ) (old : State Terms) (final : Sides) → Writing old.sides final (λ failed written. Tries failed no_memory written)
@@ -340,34 +326,29 @@ pub request_after : (reader after : ReaderState) (old middle : Sides) (r : Resul
 request_after reader after old middle r message gives is = (gives_message reader after old middle r message gives is).2.request
 
 module _ {Terms : Type 0} where
-  pub goes_request : (config : Config) (limit number : ℕ) (reader after : ReaderState) (message : Message) (old new : State Terms) (first middle : Sides) (r : Result (Option Message) FrameFault) (result : Option Ended)
-      → first ≡ old.sides → Gives reader after first middle r → r ≡ Ok (Some message)
+  pub goes_request : (config : Config) (limit number : ℕ) (reader after : ReaderState) (message : Message) (old new : State Terms) (middle : Sides) (r : Result (Option Message) FrameFault) (result : Option Ended)
+      → Gives reader after old.sides middle r → r ≡ Ok (Some message)
       → Served config limit number message (state middle old.draw old.clock old.pass) new result
       → Goes config limit (stand number reader) (stand (number + 1) after) old new result
-  goes_request config limit number reader after message old new first middle r result same gives is served =
-      let got = gives_message reader after old.sides middle r message (subst (λ (x : Sides). Gives reader after x middle r) same gives) is in
+  goes_request config limit number reader after message old new middle r result gives is served =
+      let got = gives_message reader after old.sides middle r message gives is in
       goes_message config limit number reader after message got.0 old new middle got.2 got.1 result served
 
-  pub goes_over : (config : Config) (limit number : ℕ) (to : Stand) (reader after : ReaderState) (old : State Terms) (first middle : Sides) (r : Result (Option Message) FrameFault)
-      → first ≡ old.sides → Gives reader after first middle r → r ≡ Ok None
+  pub goes_over : (config : Config) (limit number : ℕ) (to : Stand) (reader after : ReaderState) (old : State Terms) (middle : Sides) (r : Result (Option Message) FrameFault)
+      → Gives reader after old.sides middle r → r ≡ Ok None
       → Goes config limit (stand number reader) to old (state middle old.draw old.clock old.pass) (Some endings.Closed)
   unfolding Goes GivesOf
-  goes_over config limit number to reader after old first middle r same gives is =
-      let got = subst (λ (x : Result (Option Message) FrameFault). Gives reader after old.sides middle x) is (subst (λ (x : Sides). Gives reader after x middle r) same gives) in
+  goes_over config limit number to reader after old middle r gives is =
+      let got = subst (λ (x : Result (Option Message) FrameFault). Gives reader after old.sides middle x) is gives in
       talked_over config limit number reader old middle got.0 got.1 got.2.0 got.2.1
 
-  pub goes_fault : (config : Config) (limit number : ℕ) (to : Stand) (reader after : ReaderState) (old : State Terms) (first middle final : Sides) (r : Result (Option Message) FrameFault) (fault : FrameFault) (ending : Ended)
-      → first ≡ old.sides → Gives reader after first middle r → r ≡ Err fault → Writing middle final (λ failed written. Refuses fault ending failed written)
+  pub goes_fault : (config : Config) (limit number : ℕ) (to : Stand) (reader after : ReaderState) (old : State Terms) (middle final : Sides) (r : Result (Option Message) FrameFault) (fault : FrameFault) (ending : Ended)
+      → Gives reader after old.sides middle r → r ≡ Err fault → Writing middle final (λ failed written. Refuses fault ending failed written)
       → Goes config limit (stand number reader) to old (state final old.draw old.clock old.pass) (Some ending)
   unfolding Goes GivesOf
-  goes_fault config limit number to reader after old first middle final r fault ending same gives is writing =
-      let got = subst (λ (x : Result (Option Message) FrameFault). Gives reader after old.sides middle x) is (subst (λ (x : Sides). Gives reader after x middle r) same gives) in
+  goes_fault config limit number to reader after old middle final r fault ending gives is writing =
+      let got = subst (λ (x : Result (Option Message) FrameFault). Gives reader after old.sides middle x) is gives in
       talked_fault config limit number reader old middle final got.0 got.1 fault ending got.2 writing
-
-  pub goes_rests : (config : Config) (limit number : ℕ) (to : Stand) (reader : ReaderState) (old : State Terms) (final : Sides) → final ≡ old.sides → old.sides.left ≡ None → reader.held ≡ []
-      → Goes config limit (stand number reader) to old (state final old.draw old.clock old.pass) (Some endings.Closed)
-  unfolding Goes
-  goes_rests config limit number to reader old final same none empty = talked_rests config limit number reader old final same none empty
 
   pub served_more : (config : Config) (limit number : ℕ) (message : Message) (old new : State Terms) (result : Option Ended) → Served config limit number message old new result → IfNone result (number ≢ 999)
   served_more config limit number message old new None served = served_on config limit number message old new served
@@ -402,6 +383,16 @@ no_bytes (b ∷ bytes) e = absurd (omega (arith, e))
 
 pub nothing_held : (gone : ℕ) (held : List ℕ) (n : ℕ) → n ≡ past gone (length held) → n ≡ 0 → held ≡ []
 nothing_held gone held n is zero = no_bytes held (omega (arith, is, zero))
+
+over_at : (place : ℕ) (bytes : List ℕ) → bytes ≡ [] → IsRequests place bytes true Over
+unfolding IsRequests
+over_at place bytes none = subst (λ (b : List ℕ). IsFrame Requests 1048576 place b true Over) (sym none) refl
+
+-- nothing is held, and nothing is left
+pub gives_none : (reader : ReaderState) (old new : Sides) → new ≡ old → IsEnd old true → reader.held ≡ [] → Gives reader reader old new (Ok None)
+unfolding GivesOf
+gives_none reader old new same is_end empty =
+    ([], read_nothing old new same, (subst (λ (s : Sides). IsEnd s true) (sym same) is_end, over_at reader.place (reader.held ++ []) (append-nil reader.held ∙ empty)))
 
 pub counted_last : (number : ℕ) (message : Message) (head : Head) → number ≡ 999 → head ≡ talks.closing_head message.head → record { head = head; body = message.body } ≡ counted number message
 unfolding counted

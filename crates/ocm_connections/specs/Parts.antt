@@ -69,7 +69,6 @@ Leads config from to deeds =
 pub record Shows {Terms : Type 0} (limit : ℕ) (old new : State Terms) (shown : Shown) : Type 0 where
   pub read_rose : IsTrue shown.read_rose → Rose old.sides.read_faults new.sides.read_faults
   pub write_rose : IsTrue shown.write_rose → Rose old.sides.write_faults new.sides.write_faults
-  pub rests : IsTrue shown.rests → new.sides.left ≡ None
   pub spent : IsTrue shown.spent → limit ≤ new.pass.drawn
 
 -- the messages between two stands were answered

@@ -52,7 +52,7 @@ pub record IsOpen (reader : ReaderState) : Type 0 where
   pub max : reader.max ≡ most_body_bytes
   pub failed : reader.failed ≡ false
 
--- the input has ended only where nothing is left
+-- the input has ended, or the connection rests, only where nothing is left
 abbrev pub IsEnd : Sides → Bool → Type 0
 IsEnd sides ended = IsTrue ended → IfSome sides.left (λ rest. rest ≡ [])
 

@@ -117,11 +117,10 @@ place_of (faults.BadChunk place) = Some place
 place_of (faults.BodyTooLong place) = Some place
 place_of _ = None
 
--- what ends a connection besides its bytes: its count as a source rose, that as a sink rose, it rests, the turnstile's limit is reached
+-- what ends a connection besides its bytes: its count as a source rose, that as a sink rose, the turnstile's limit is reached
 pub record Shown : Type 0 where
   pub read_rose : Bool
   pub write_rose : Bool
-  pub rests : Bool
   pub spent : Bool
 
 -- what has to be shown for an ending
@@ -133,7 +132,7 @@ cause_of shown _ = true
 
 -- bytes that are no message end the connection so, after this was written
 unfoldable pub Stops : Shown → ℕ → List ℕ → Bool → List ℕ → Ended → Type 0
-Stops shown place bytes ended written Closed = (written ≡ []) × (IsRequests place bytes ended Over ⊎ ((shown.rests ≡ true) × (bytes ≡ [])))
+Stops shown place bytes ended written Closed = (written ≡ []) × IsRequests place bytes ended Over
 Stops shown place bytes ended written Cut = (written ≡ []) × IsRequests place bytes ended (Refused faults.Cut)
 Stops shown place bytes ended written (Bad at) =
     (written ≡ bad) × (fault : FrameFault) × IsRequests place bytes ended (Refused fault) × (place_of fault ≡ Some at)
@@ -160,7 +159,7 @@ abbrev pub is_spent : Result Page Missed → Bool
 is_spent (Err misses.Spent) = true
 is_spent _ = false
 
--- What is said on a connection after so many messages, from a place of its stream on: the bytes that were read from there, whether the input ended, the drawn values, the clock's values, the calls (the newest first), what was written, and the ending.
+-- What is said on a connection after so many messages, from a place of its stream on: the bytes that were read from there, whether that is all (the input ended, or the connection rests), the drawn values, the clock's values, the calls (the newest first), what was written, and the ending.
 pub data Talk (config : Config) (shown : Shown) : ℕ → ℕ → List ℕ → Bool → List (List ℕ) → List ℕ → List Entry → List ℕ → Ended → Type 0 where
   -- no message comes
   silent : (number place : ℕ) (bytes : List ℕ) (ended : Bool) (written : List ℕ) (ending : Ended)

@@ -1,6 +1,6 @@
-ghost use Rattle.std.specs.Prelude.{◌≡◌, None, true};
+ghost use Rattle.std.specs.Prelude.{◌≡◌};
 ghost use Rattle.ocm_http.specs.Written.{fixed};
-ghost use Rattle.ocm_connections.specs.Sides.{Sides, IsOpen, Gives, Sends};
+ghost use Rattle.ocm_connections.specs.Sides.{Sides, IsOpen, IsEnd, Gives, Sends};
 
 use ocm_base::{Failed, Joined};
 use ocm_http::{Fixed, FrameFault, Message, Reader};
@@ -15,10 +15,11 @@ pub trait Conn: Drop {
         requires { IsOpen reader.old }
         ensures { Gives reader.old reader.new (sides self.old) (sides self.new) result };
 
-    /// Whether nothing is here to read now, and the connection may be handed back until there is.
+    /// Whether nothing is here to read now, and the connection may be handed back until there is. One that knows what it
+    /// has left rests only where that is nothing.
     fn rests(&mut self) -> bool
         ensures same { sides self.new ≡ sides self.old }
-        ensures told { result ≡ true → (sides self.old).left ≡ None };
+        ensures told { IsEnd (sides self.old) result };
 
     /// Writes a page.
     fn send(&mut self, piece: &Joined) -> Result<(), Failed>

@@ -9,6 +9,7 @@ mod gates;
 mod nodes;
 mod pairs;
 mod responding;
+mod resting;
 mod serving;
 
 pub use conns::Conn;
@@ -18,4 +19,5 @@ pub use gates::{GateConn, GateEvent, GateSink, GateSource, gate_conn};
 pub use nodes::Node;
 pub use pairs::{MemConn, Pair, PureConn};
 pub use responding::respond;
+pub use resting::{RestConn, RestSource, rest_conn};
 pub use serving::serve_conn;

@@ -1,11 +1,11 @@
 //! A connection served.
 
-ghost use Rattle.std.specs.Prelude.{◌≡◌, ◌≢◌, ◌<◌, ◌≤◌, ◌+◌, ◌⊎◌, IfNone, IsTrue, None, []};
+ghost use Rattle.std.specs.Prelude.{◌≡◌, ◌≢◌, ◌<◌, ◌≤◌, ◌+◌, ◌⊎◌, IfNone, IsTrue, None, Ok};
 ghost use Rattle.ocm_base.specs.Outside.{Rose};
 ghost use Rattle.ocm_limits.specs.Limits.{last_connection_request, most_connection_requests};
 ghost use Rattle.ocm_http.specs.Messages.{IsRequest};
 ghost use Rattle.ocm_turn.specs.Passes.{BelongsTo};
-ghost use Rattle.ocm_connections.specs.Sides.{IsOpen};
+ghost use Rattle.ocm_connections.specs.Sides.{IsOpen, Gives};
 ghost use Rattle.ocm_connections.specs.Talk as talk;
 ghost use Rattle.ocm_connections.specs.Talk.{EndsMissed, Tries, no_memory};
 ghost use Rattle.ocm_connections.specs.Parts.{Finishes, Writing, Refuses, RefusesAt, Goes, Served, Talked, stand, state};
@@ -174,16 +174,26 @@ fn serve_request<T: Object, C: Conn, K: Clock, R: Wait>(
     finish(conn, answered, after)
 }
 
-/// Whether a connection rests between two messages.
+/// Whether a connection rests between two messages. Then it has no further one.
 fn is_resting<C: Conn>(conn: &mut C, reader: &Reader) -> bool
     ensures same { C.sides conn.new ≡ C.sides conn.old }
-    ensures left { IsTrue result → (C.sides conn.old).left ≡ None }
-    ensures held { IsTrue result → reader.now.held ≡ [] }
+    ensures over { IsTrue result → Gives reader.now reader.now (C.sides conn.old) (C.sides conn.new) (Ok None) }
 {
     if reader.held() != 0 {
         return false;
     }
     conn.rests()
+}
+
+/// The next message of a connection. None where it rests or the input ended, between two messages.
+fn next_message<C: Conn>(conn: &mut C, reader: &mut Reader) -> Result<Option<Message>, FrameFault>
+    requires { IsOpen reader.old }
+    ensures { Gives reader.old reader.new (C.sides conn.old) (C.sides conn.new) result }
+{
+    if is_resting(conn, reader) {
+        return Ok(None);
+    }
+    conn.next(reader)
 }
 
 /// Serves one message of a connection. None where it goes on.
@@ -209,10 +219,7 @@ fn serve_message<T: Object, C: Conn, K: Clock, R: Wait>(
     ensures more { IfNone result (number ≢ last_connection_request) }
     ensures own { BelongsTo node.now pass.new }
 {
-    if is_resting(conn, reader) {
-        return Some(Ended::Closed);
-    }
-    match conn.next(reader) {
+    match next_message(conn, reader) {
         Ok(Some(message)) => serve_request(
             rt, alloc, config, node, pass, conn, draw, clock, message, number,
         ),

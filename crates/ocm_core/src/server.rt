@@ -8,6 +8,7 @@ ghost use Rattle.ocm_rules.specs.Numbers.{at_number};
 ghost use Rattle.ocm_rules.specs.Shares.{moment};
 ghost use Rattle.ocm_rules.specs.State.{empty_of, view_in};
 ghost use Rattle.ocm_tables.specs.Changes.{HasNumbers, HasRoom, changed, is_kept};
+ghost use Rattle.ocm_tables.specs.Tables.{GrantCost};
 ghost use Rattle.ocm_plan.specs.Plans.{Plans};
 ghost use Rattle.ocm_core.specs.Standing.{IsAfter, IsNumbered, IsPlanned, body_of as bytes_of, body_with, standing_body};
 
@@ -17,10 +18,11 @@ use ocm_plan::{Planned, plan_new_user, plan_tick};
 use ocm_plan_dav::{plan_carry, plan_dav};
 use ocm_plan_local::plan_command;
 use ocm_plan_peers::{plan_due, plan_notice, plan_offer, plan_settle};
-use ocm_tables::Tables;
+use ocm_tables::{Probes, Tables};
 use ocm_types::{Host, Numbered};
 use std::alloc::Global;
-use std::marker::Model;
+use std::marker::{Brand, Model};
+use std::sync::ledger::{Blank, Ledger};
 
 /// The state of one server after its history. Contracts see the lists that the history comes to, for
 /// how many more rows there is room, how many of its entries are kept, and which of these put what stands.
@@ -91,7 +93,7 @@ impl Core {
             → is_kept plan.change ≡ changes self.now.state.host (kept self.now.state.host g) (record { ask = ask.now; reply = plan.reply })) }
         ensures numbers { IfOk result (λ plan. HasNumbers self.now.state plan.sent) }
     {
-        let planned = plan(&self.tables, ask)?;
+        let planned = plan_from::<Brand, Brand>(&self.tables, ask, Blank::new(1), Blank::new(1))?;
         Ok(planned)
     }
 
@@ -141,10 +143,35 @@ impl Core {
     }
 }
 
-/// The plan for an ask.
-fn plan(tables: &Tables, ask: &Ask) -> Result<Planned, NoMemory>
-    requires { IsTrue (is_proper ask.now) }
+/// The plan for an ask, with counts of its own.
+fn plan_from<I: Ledger, R: Ledger>(
+    tables: &Tables,
+    ask: &Ask,
+    index: Blank,
+    rows: Blank,
+) -> Result<Planned, NoMemory>
+    requires proper { IsTrue (is_proper ask.now) }
+    requires index_name { index.name ≡ I.name }
+    requires index_parts { index.parts ≡ I.parts }
+    requires some_index { 0 < I.parts }
+    requires rows_name { rows.name ≡ R.name }
+    requires rows_parts { rows.parts ≡ R.parts }
+    requires some_rows { 0 < R.parts }
     ensures { IfOk result (λ plan. Plans tables.now.state ask.now plan) }
+{
+    let mut probes = Probes::open(index, rows);
+    plan::<I, R>(tables, ask, &mut probes)
+}
+
+/// The plan for an ask. What it costs to find and grant the holder of its secret is counted.
+fn plan<I: Ledger, R: Ledger>(
+    tables: &Tables,
+    ask: &Ask,
+    probes: &mut Probes<I, R>,
+) -> Result<Planned, NoMemory>
+    requires { IsTrue (is_proper ask.now) }
+    ensures plans { IfOk result (λ plan. Plans tables.now.state ask.now plan) }
+    ensures cost { GrantCost (length tables.now.state.shares) probes.old probes.new }
 {
     match ask {
         Ask::AddUser { name, fresh } => plan_new_user(tables, name, fresh),
@@ -156,7 +183,7 @@ fn plan(tables: &Tables, ask: &Ask) -> Result<Planned, NoMemory>
             method,
             path,
             body,
-        } => plan_dav(tables, secret, *method, path, body),
+        } => plan_dav(tables, secret, *method, path, body, probes),
         Ask::Due => plan_due(tables),
         Ask::Settle { number, status, id } => plan_settle(tables, *number, *status, id.as_ref()),
         Ask::Tick { clock } => Ok(plan_tick(tables, *clock)),
@@ -166,7 +193,7 @@ fn plan(tables: &Tables, ask: &Ask) -> Result<Planned, NoMemory>
             to,
             moving,
             overwrite,
-        } => plan_carry(tables, secret, from, to, *moving, *overwrite),
+        } => plan_carry(tables, secret, from, to, *moving, *overwrite, probes),
     }
 }
 

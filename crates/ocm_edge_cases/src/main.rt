@@ -1,18 +1,22 @@
-//! Cases of what a running server takes from the system at its start: the words of its command line, and the system's clock.
+//! Cases of what a running server takes from the system at its start: the words of its command line, the file of the
+//! administrator's key, and the system's clock.
 //! Each line of standard input is one, and for each a line is written.
 //!
 //! | line | tells |
 //! |---|---|
-//! | `plan WORD WORD ..` | the plan of these words, or `usage` |
+//! | `plan WORD WORD ..` | what these words order, or `usage` |
+//! | `key HEX` | the administrator's key that a file of these bytes holds, or `none` |
 //! | `clock` | whether the system's clock is past the year 2020, and does not go back |
 //!
 //! The lines are read by `StdSource` and written by `StdSink`.
 #![tactic(auto)]
 
 mod clocks;
+mod keys;
 mod plans;
 
 use crate::clocks::clock_told;
+use crate::keys::key_told;
 use crate::plans::plan_told;
 use ocm_base::{Bytes, Sink, StdSink, StdSource, read_whole, write_all};
 use std::alloc::Global;
@@ -56,6 +60,7 @@ fn all_told<R: time::Clock, K: Sink>(
 fn line_told<R: time::Clock>(rt: &R, alloc: Global, line: &str) -> Option<String> {
     let told = match line.split_once(' ') {
         Some(("plan", words)) => plan_told(alloc, words),
+        Some(("key", hex)) => key_told(alloc, hex),
         None if line == "clock" => clock_told(rt, alloc),
         _ => None,
     }?;

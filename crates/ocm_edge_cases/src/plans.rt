@@ -1,4 +1,4 @@
-use ocm_options::{Plan, PlanFault, read_plan};
+use ocm_options::{AdminKey, Orders, PlanFault, read_plan};
 use std::alloc::Global;
 
 /// The words between blanks.
@@ -11,27 +11,30 @@ fn words_of(alloc: Global, text: &str) -> Option<Vec<String>> {
     Some(words)
 }
 
-/// The plan of these words, told.
+/// The orders of these words, told.
 pub fn plan_told(alloc: Global, text: &str) -> Option<String> {
     let words = words_of(alloc, text)?;
-    let plan = read_plan(alloc, &words);
+    let orders = read_plan(alloc, &words);
     drop(words);
-    match plan {
-        Ok(plan) => told(alloc, &plan),
+    match orders {
+        Ok(orders) => told(alloc, &orders),
         Err(PlanFault::Usage) => String::from_str(alloc, "usage").ok(),
         Err(PlanFault::NoMemory) => None,
     }
 }
 
-fn told(alloc: Global, plan: &Plan) -> Option<String> {
-    let host = plan.host.as_str();
-    let disk = plan.disk.as_str();
-    let admin = plan.admin.as_str();
-    let listen = plan.listen.as_str();
-    let key_file = plan.key_file.as_str();
-    let workers = plan.workers;
-    let connections = plan.connections;
+fn told(alloc: Global, orders: &Orders) -> Option<String> {
+    let host = orders.host.as_str();
+    let disk = orders.disk.as_str();
+    let (mark, admin) = match &orders.admin {
+        AdminKey::Key(key) => ("admin", key.as_str()),
+        AdminKey::File(path) => ("admin file", path.as_str()),
+    };
+    let listen = orders.listen.as_str();
+    let key_file = orders.key_file.as_str();
+    let workers = orders.workers;
+    let connections = orders.connections;
     format!(in alloc;
-        "host {host} disk {disk} admin {admin} listen {listen} workers {workers} key file {key_file} connections {connections}"
+        "host {host} disk {disk} {mark} {admin} listen {listen} workers {workers} key file {key_file} connections {connections}"
     ).ok()
 }

@@ -8,7 +8,6 @@ use Rattle.std.proofs.lemmas.Bool.Decides.{nat_tests}
 use Rattle.std.proofs.lemmas.List.{reverse-append, reverse-reverse, length-reverse}
 use Rattle.std.proofs.lemmas.List.Folds.{list_all-append}
 use Rattle.std.proofs.lemmas.List.Sums.{AllPass-from_list_all, list_all-from_AllPass}
-use Rattle.std.proofs.lemmas.List.Elements.{All-weaker}
 use Rattle.std.proofs.lemmas.Fmt.{digits_decimal}
 use Rattle.std.proofs.lemmas.Str.Parse.{IsNumeralModel, numerals_by_fold}
 use Rattle.base64.specs.GeneralPurpose.{encode_of, engine_symbols}
@@ -21,8 +20,9 @@ use Rattle.httparse.proofs.TrimLemmas.{AllPass-reverse}
 use Rattle.ocm_types.specs.Hosts.{is_host, is_host_byte, is_host_name, is_kept_port, is_port, is_default_port, cut_at_first}
 use Rattle.ocm_types.specs.Texts.{has_length}
 use Rattle.ocm_texts.specs.Decimal.{number_after}
+use Rattle.ocm_texts.specs.Hex.{AreBytes}
 use Rattle.ocm_http.specs.Written.{basic}
-use Rattle.ocm_http.specs.ReadBack.{IsClear, field, AreBytes}
+use Rattle.ocm_http.specs.ReadBack.{IsClear, field}
 
 -- ---- tests of bytes
 
@@ -174,7 +174,8 @@ encoded_some m some =
     some_in_front (encode_symbols table m) (replicate (padding_len (length m)) 61) (omega arith)
 
 bytes_test : (xs : List ℕ) → AreBytes xs → list_all is_byte xs ≡ true
-bytes_test xs h = list_all-from_AllPass is_byte xs (All-weaker (λ b. b < 256) (λ b. is_byte b ≡ true) (λ b l. lt-ltb b 256 l) xs h)
+bytes_test [] h = refl
+bytes_test (b ∷ xs) h = and_from _ _ (lt-ltb b 256 (h 0)) (bytes_test xs (λ i. h (suc i)))
 
 trimmed_by : (xs : List ℕ) → skip_ows xs ≡ xs → skip_ows (reverse xs) ≡ reverse xs → trim_ows xs ≡ xs
 unfolding trim_ows

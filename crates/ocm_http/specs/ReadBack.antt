@@ -4,6 +4,7 @@ use Rattle.std.specs.List.{flat_map}
 use Rattle.std.specs.Fmt.{decimal}
 use Rattle.ocm_limits.specs.Limits.{most_head_bytes, most_head_lines}
 use Rattle.httparse.specs.Grammar.{IsToken, AllPass, is_uri_byte, is_value_byte, trim_ows}
+use Rattle.ocm_texts.specs.Hex.{AreBytes}
 use Rattle.ocm_types.specs.Hosts.{is_host}
 use Rattle.ocm_heads.specs.Endings.{lines}
 use Rattle.ocm_heads.specs.Heads.{kept_field, is_same}
@@ -70,10 +71,6 @@ request_message host method target secret body =
 pub record IsAsked (method target : List ℕ) : Type 0 where
   pub is_method : IsToken method
   pub is_target : (0 < length target) × AllPass is_uri_byte target
-
--- each number is a byte
-abbrev pub AreBytes : List ℕ → Type 0
-AreBytes bytes = All (λ b. b < 256) bytes
 
 -- bytes are that request, where it is within the limits
 abbrev pub RequestIsReadBack : List ℕ → List ℕ → List ℕ → Option (List ℕ) → List ℕ → List ℕ → Type 0

@@ -1,6 +1,6 @@
-ghost use Rattle.std.specs.Prelude.{◌≡◌};
+ghost use Rattle.std.specs.Prelude.{◌≡◌, IfOk};
 
-use ocm_base::{Bytes, NoMemory};
+use ocm_base::{Bytes, NoMemory, and};
 use ocm_heads::Head;
 
 /// Which messages a stream has.
@@ -20,13 +20,12 @@ pub struct Message {
 }
 
 /// The same message, whose body its copies share.
-pub(crate) fn sharing(message: Message) -> Message
-    ensures { result ≡ message }
+pub(crate) fn sharing(message: Message) -> Result<Message, NoMemory>
+    ensures { IfOk result (λ m. m ≡ message) }
 {
-    Message {
-        head: message.head,
-        body: message.body.shared(),
-    }
+    let Message { head, body } = message;
+    let (head, body) = and(head, body.shared())?;
+    Ok(Message { head, body })
 }
 
 /// Why a stream is refused. A place is the number of bytes of the stream before it, and ends at 2^64 - 1. The place

@@ -111,11 +111,18 @@ impl Reader {
         };
         let mut gone = 0;
         match read_message(rules, &mut self.window, source, &mut gone) {
-            Ok(Some(message)) => {
-                self.place = self.place.saturating_add(gone);
-                self.gone = 0;
-                Ok(Some(sharing(message)))
-            }
+            Ok(Some(message)) => match sharing(message) {
+                Ok(message) => {
+                    self.place = self.place.saturating_add(gone);
+                    self.gone = 0;
+                    Ok(Some(message))
+                }
+                Err(NoMemory) => {
+                    self.failed = true;
+                    self.gone = self.gone.saturating_add(gone);
+                    Err(FrameFault::NoMemory)
+                }
+            },
             Ok(None) => {
                 self.place = self.place.saturating_add(gone);
                 self.gone = self.gone.saturating_add(gone);

@@ -1,6 +1,7 @@
 ghost use Rattle.std.specs.Prelude.{◌≡◌, ◌<◌, ◌≤◌, option_copied, string_bytes, IfOk, IfSome, OnOk, OnErr, IsSome, IsTrue};
 ghost use Rattle.http.specs.StatusCode.{reason_phrase};
 ghost use Rattle.ocm_base.specs.Outside.{Rose, Appends, AppendsPart};
+ghost use Rattle.ocm_texts.specs.Hex.{AreBytes};
 ghost use Rattle.ocm_types.specs.Hosts.{is_host};
 ghost use Rattle.ocm_http.specs.Written as written;
 ghost use Rattle.ocm_http.specs.ReadBack as back;
@@ -43,7 +44,7 @@ fn add_fields(text: &mut Bytes, fields: &[Field]) -> Result<(), NoMemory>
 /// The basic credentials of a secret.
 fn basic(alloc: Global, secret: &str) -> Result<String, NoMemory>
     ensures written { IfOk result (λ s. string_bytes s ≡ written.basic secret.now) }
-    ensures bytes { OnOk result (back.AreBytes secret.now) }
+    ensures bytes { OnOk result (AreBytes secret.now) }
 {
     let mut plain = String::from_str(alloc, secret)?;
     plain.push_str(":")?;
@@ -54,7 +55,7 @@ fn basic(alloc: Global, secret: &str) -> Result<String, NoMemory>
 
 fn add_credentials(alloc: Global, text: &mut Bytes, auth: Option<&Secret>) -> Result<(), NoMemory>
     ensures written { OnOk result (text.new ≡ written.with_credentials text.old (option_copied auth.entry)) }
-    ensures bytes { OnOk result (IfSome (option_copied auth.entry) back.AreBytes) }
+    ensures bytes { OnOk result (IfSome (option_copied auth.entry) AreBytes) }
 {
     if let Some(secret) = auth {
         let credentials = basic(alloc, secret.as_str())?;

@@ -1,5 +1,6 @@
 pub mod AppendStands
 pub mod Appended
+pub mod Begun
 pub mod BothWays
 pub mod CutShort
 pub mod Holding

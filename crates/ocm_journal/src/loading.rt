@@ -3,6 +3,7 @@ ghost use Rattle.ocm_disk.specs.Disk.{Only, LeavesOnly};
 ghost use Rattle.ocm_image.specs.Blank.{IsBlank, blank_of, made_form};
 ghost use Rattle.ocm_image.specs.Layout.{IsLabel, IsAreaSize, contents};
 ghost use Rattle.ocm_journal.specs.Journals.{disk_of, area_of, form_of, first_is_live, selects_first, StandsFor};
+ghost use Rattle.ocm_journal.specs.LiveAreas.{BeginsWith, HasLive, LiveArea};
 ghost use Rattle.ocm_journal.specs.Openings.{Opens, BlankSize, IsPlaced, ImageOpens, IsReadFault, IsCounted, IsSaidBy, StaysAsItOpens, IsMadeAs, opening, new_area};
 ghost use Rattle.ocm_journal.specs.Passing.{IsNoDiskFault, FailsWithDisk};
 
@@ -126,6 +127,7 @@ fn open<D: Disk>(alloc: Global, disk: &mut D, label: &[u8], area: u64) -> Result
     ensures cause { IfErr result (IsCounted (D.count disk.old) (D.count disk.new)) }
     ensures unfailing { FailsWithDisk ⟦<D as Disk>⟧ disk.old disk.new result }
     ensures stays { D.tells → StaysAsItOpens label.now area (D.seen disk.old) (D.seen disk.new) }
+    ensures synced { D.tells → D.passes disk.old 1 → (c : List ℕ) → D.may_leave disk.new c → StaysAsItOpens label.now area (D.seen disk.old) c }
     ensures any_moment { D.tells
         → LeavesOnly D.moment D.left_since disk.old disk.new (λ c. D.may_leave disk.old c ⊎ StaysAsItOpens label.now area (D.seen disk.old) c) }
 {
@@ -156,6 +158,9 @@ impl<D: Disk> Journal<D> {
         ensures first { D.tells → IsBlank label.now (new_area limit) (D.seen disk) → IfOk result (λ loaded. first_is_live loaded.0 ≡ true) }
         ensures live { D.tells → IfOk result (λ loaded. first_is_live loaded.0 ≡ selects_first label.now (D.seen (disk_of loaded.0))) }
 
+        // Of an image its live area stays the live one, and that of a new journal has no records.
+        ensures begins { D.tells → IfOk result (λ loaded. (live : LiveArea) → BeginsWith label.now (new_area limit) (D.seen disk) live → HasLive ⟦<D as Disk>⟧ label.now live loaded.0) }
+
         // A disk on which a journal was made reads as before.
         ensures same { D.tells → blank_of label.now (new_area limit) (D.seen disk) ≡ None → IfOk result (λ loaded. D.seen (disk_of loaded.0) ≡ D.seen disk) }
 
@@ -177,6 +182,11 @@ impl<D: Disk> Journal<D> {
             (λ c. D.may_leave disk c ⊎ StaysAsItOpens label.now (new_area limit) (D.seen disk) c)) }
         ensures moments_err { D.tells → IfErr result (λ failed. LeavesOnly D.moment D.left_since disk failed.0
             (λ c. D.may_leave disk c ⊎ StaysAsItOpens label.now (new_area limit) (D.seen disk) c)) }
+
+        // Wherever the calls of its disk end behind the first one, a crash leaves the second of these alone. So it does at
+        // each moment from the success of the first sync on, since no call tells how many are left.
+        ensures synced_ok { D.tells → D.passes disk 1 → IfOk result (λ loaded. (c : List ℕ) → D.may_leave (disk_of loaded.0) c → StaysAsItOpens label.now (new_area limit) (D.seen disk) c) }
+        ensures synced_err { D.tells → D.passes disk 1 → IfErr result (λ failed. (c : List ℕ) → D.may_leave failed.0 c → StaysAsItOpens label.now (new_area limit) (D.seen disk) c) }
     {
         let mut disk = disk;
         match open(alloc, &mut disk, label, (limit - 512) / 2) {

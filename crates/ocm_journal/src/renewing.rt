@@ -75,6 +75,7 @@ impl<D: Disk> Journal<D> {
         ensures area { self.new.area ≡ self.old.area }
         ensures form { OnOk result (self.new.form ≡ 2) }
         ensures form_kept { IsErrOf result RenewFault.NoMemory → self.new.form ≡ self.old.form }
+        ensures live_kept { IsErrOf result RenewFault.NoMemory → first_is_live self.new ≡ first_is_live self.old }
 
         // Where it answers Ok it has made four device calls, and where fewer are left it fails.
         ensures calls { (left : ℕ) → D.burnt (disk_of self.old) (left + 4) → OnOk result (D.burnt (disk_of self.new) left) }

@@ -13,6 +13,7 @@ use Rattle.httparse.specs.Grammar.{is_token_byte, is_value_byte, trim_ows}
 use Rattle.json.proofs.Printed.Utf8.{are_ascii, IsUtf8-are_ascii}
 use Rattle.serde_json.specs.Data.{Data, object, no_members}
 use Rattle.serde_json.specs.Written.{compact_text}
+use Rattle.ocm_limits.specs.Limits.{most_reply_bytes}
 use Rattle.ocm_types.specs.Texts.{has_length, is_allowed, is_provider_id}
 use Rattle.ocm_types.specs.declared.letters.Letter.{Letter}
 use Rattle.ocm_types.specs.declared.letters.Letter.TheVariants as letters
@@ -25,9 +26,9 @@ use Rattle.ocm_entry.specs.declared.replies.Reply.TheVariants as replies
 use Rattle.ocm_heads.specs.Endings.{lines}
 use Rattle.ocm_heads.specs.declared.fields.Field.{Field}
 use Rattle.ocm_heads.proofs.Heads.{lines-append}
-use Rattle.ocm_http.specs.Frames.{Given}
+use Rattle.ocm_http.specs.declared.messages.Kind.TheVariants.{Replies}
 use Rattle.ocm_http.specs.Written.{line_end, with_fields, with_length, with_close, status_line, reply_head, written_reply, fixed}
-use Rattle.ocm_http.specs.ReadBack.{IsGiven, IsWithinLimits, has_no_body, reply_message}
+use Rattle.ocm_http.specs.ReadBack.{ReadsAs, IsGiven, IsWithinLimits, has_no_body, reply_message}
 use Rattle.ocm_http.specs.declared.writing.Fixed.TheVariants.{NoMemory}
 use Rattle.ocm_http.proofs.ReadReplies.{reply_is_read_back, fixed_are_written}
 use Rattle.ocm_http.proofs.Values.{all_pass, visible_clear, decimal_digits}
@@ -40,7 +41,6 @@ use Rattle.ocm_pages.specs.Fields.{content_type, challenge, allowed, status_fiel
 use Rattle.ocm_pages.specs.Pages.{json, page, page_of, message_page}
 use Rattle.ocm_pages.specs.declared.shapes.Allow.TheVariants.{Post}
 use Rattle.ocm_pump.specs.Delivery.{answer_of, asks_share, is_success, child, with_child}
-use Rattle.ocm_pump.specs.Replies.{IsReply}
 use Rattle.ocm_law_world.specs.Deliveries.{delivered_status, delivered_id}
 use Rattle.ocm_law_posts.specs.Answers.{is_offer, Tells, AnswersAreTold}
 use Rattle.ocm_law_posts.proofs.Spelled.{text-short, text-read}
@@ -97,7 +97,7 @@ within text n short few small =
     (simp length-append (omega (arith, short, digits)), simp lines-append (omega (arith, few, few-lines (decimal n), digits)))
 
 page-read : (status : ℕ) (body : List ℕ) → is_usable status ≡ true → length body ≤ 65536
-    → IsReply (written_reply status (fields status) body false true) (Given (reply_message status (fields status) body true) [])
+    → ReadsAs Replies most_reply_bytes (written_reply status (fields status) body false true) (reply_message status (fields status) body true)
 page-read status body usable short =
     let a = and_parts (nat_le 200 status && nat_lt status 1000 && not (has_no_body status) && nat_le (length (front status)) 2000) (nat_le (lines (front status)) 20) usable in
     let b = and_parts (nat_le 200 status && nat_lt status 1000 && not (has_no_body status)) (nat_le (length (front status)) 2000) a.0 in
@@ -108,7 +108,7 @@ page-read status body usable short =
     let head : reply_head status (fields status) (length body) true ≡ ending (front status) (length body) =
     ap (λ t. with_close (cond t (front status) (with_length (front status) (length body))) ++ line_end) counted in
     let limits = subst IsWithinLimits (sym head) (within (front status) (length body) (leb-true (length (front status)) 2000 b.1) (leb-true (lines (front status)) 20 a.1) short) in
-    reply_is_read_back status (fields status) body false true (ltb-true status 1000 d.1) 33554432 (leb-true 200 status d.0) (given status) refl (λ none. absurd (both_ways (has_no_body status) bodied none)) limits (omega (arith, short), omega (arith, short)) 0 true
+    reply_is_read_back status (fields status) body false true (ltb-true status 1000 d.1) 33554432 (leb-true 200 status d.0) (given status) refl (λ none. absurd (both_ways (has_no_body status) bodied none)) limits (omega (arith, short), omega (arith, short))
 
 -- ---- bodies
 
@@ -222,8 +222,8 @@ memory-limits = (lit≤ tt, lit≤ tt)
 told-no_memory : (letter : Letter) → Tells letter replies.NoMemory (fixed NoMemory)
 told-no_memory letter = record {
   message = reply_message 500 [] [] true;
-  read = subst (λ (l : List ℕ). IsReply l (Given (reply_message 500 [] [] true) [])) (sym (fixed_are_written NoMemory))
-      (reply_is_read_back 500 [] [] false true (lit< tt) 33554432 (lit≤ tt) (All-nil IsGiven) refl (λ none. refl) memory-limits (lit≤ tt, lit< tt) 0 true);
+  read = subst (λ (l : List ℕ). ReadsAs Replies most_reply_bytes l (reply_message 500 [] [] true)) (sym (fixed_are_written NoMemory))
+      (reply_is_read_back 500 [] [] false true (lit< tt) 33554432 (lit≤ tt) (All-nil IsGiven) refl (λ none. refl) memory-limits (lit≤ tt, lit< tt));
   told = told-failure letter 500 [] refl;
 }
 

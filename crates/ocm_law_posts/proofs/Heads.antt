@@ -51,6 +51,17 @@ document-target = record {
   few = lit≤ tt;
 }
 
+pub second-target : IsTarget (codes "GET") (codes "/ocm-provider/")
+unfolding is_token_byte
+second-target = record {
+  asked = record {
+    is_method = (lit< tt, AllPass-from_list_all is_token_byte (codes "GET") refl);
+    is_target = (lit< tt, AllPass-from_list_all is_uri_byte (codes "/ocm-provider/") refl);
+  };
+  text = IsUtf8-are_ascii (codes "/ocm-provider/") refl;
+  few = lit≤ tt;
+}
+
 -- ---- heads
 
 post-head : (host target : List ℕ) (n : ℕ) → length host ≤ 246 → length target ≤ 64 → n ≤ 65536 → length (request_head host (codes "POST") target None n) ≤ 16384

@@ -26,7 +26,7 @@ use Rattle.ocm_law_posts.proofs.Heads.{document-target, get-read}
 use Rattle.ocm_law_posts.proofs.Documents.{document_text, document-short, document-home}
 
 -- the one field of the page, beside the length and the end of the connection
-abbrev fields : List Field
+abbrev pub fields : List Field
 fields = content_type json ∷ []
 
 given : All IsGiven fields
@@ -50,7 +50,7 @@ limits n small =
     let few = length-decimal-le 5 n (lit≤ tt) (omega arith) (omega arith) in
     (simp length-append (omega (arith, few)), simp lines-append (omega (arith, few-lines (decimal n), few)))
 
-document-reply : (body : List ℕ) → length body ≤ 65536 → ReadsAs Replies 33554432 (written_reply 200 fields body false true) (reply_message 200 fields body true)
+pub document-reply : (body : List ℕ) → length body ≤ 65536 → ReadsAs Replies 33554432 (written_reply 200 fields body false true) (reply_message 200 fields body true)
 document-reply body short =
     reply_is_read_back 200 fields body false true (lit< tt) 33554432 (lit≤ tt) given refl (λ none. absurd (true≢false (sym none))) (limits (length body) short) (omega (arith, short), omega (arith, short))
 

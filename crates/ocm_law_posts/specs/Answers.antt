@@ -1,15 +1,16 @@
 -- What the sender of a letter is told is the answer that is under way.
-use Rattle.std.specs.Prelude.{◌≡◌, ℕ, ◌^◌, ◌<◌, Bool, true, false, not, List, [], Ok, IsUtf8}
+use Rattle.std.specs.Prelude.{◌≡◌, ℕ, ◌^◌, ◌<◌, Bool, true, false, not, List, Ok, IsUtf8}
+use Rattle.ocm_limits.specs.Limits.{most_reply_bytes}
 use Rattle.ocm_types.specs.Texts.{is_name}
 use Rattle.ocm_types.specs.declared.letters.Letter.{Letter}
 use Rattle.ocm_types.specs.declared.letters.Letter.TheVariants as letters
 use Rattle.ocm_entry.specs.declared.replies.Reply.{Reply}
 use Rattle.ocm_entry.specs.declared.replies.Reply.TheVariants as replies
-use Rattle.ocm_http.specs.Frames.{Given}
+use Rattle.ocm_http.specs.ReadBack.{ReadsAs}
+use Rattle.ocm_http.specs.declared.messages.Kind.TheVariants.{Replies}
 use Rattle.ocm_http.specs.declared.messages.Message.{Message}
 use Rattle.ocm_pages.specs.Pages.{page_of}
 use Rattle.ocm_pump.specs.Delivery.{answer_in, asks_share}
-use Rattle.ocm_pump.specs.Replies.{IsReply}
 use Rattle.ocm_entry.specs.declared.entries.Entry.{Entry}
 use Rattle.ocm_law_sessions.specs.Sessions.{IsReply as IsSessionReply}
 use Rattle.ocm_law_world.specs.Deliveries.{letter_ask, delivered_status, delivered_id}
@@ -41,10 +42,11 @@ IsSound (replies.DiskFault count) = count < 2 ^ 64
 IsSound (replies.Stopped count) = count < 2 ^ 64
 IsSound _ = Unit {0}
 
--- bytes are one reply, by which the sender of a letter is told the status and the id of this reply
+-- bytes are one reply, whether the input ends with them or not, by which the sender of a letter is told the status and the id
+-- of this reply
 pub record Tells (letter : Letter) (reply : Reply) (bytes : List ℕ) : Type 0 where
   pub message : Message
-  pub read : IsReply bytes (Given message [])
+  pub read : ReadsAs Replies most_reply_bytes bytes message
   pub told : answer_in letter (Ok message) ≡ Ok (record { status = delivered_status reply; id = delivered_id reply })
 
 -- the page of a reply to a letter tells its sender that answer

@@ -59,19 +59,19 @@ comes-run w servers a older wanting under stands = by_case (server_at servers a.
 
 -- ---- crashes
 
-pub crashes-run : (w : World) (servers : List Server) (host : List ℕ) (keeps : Bool) → IsAlone w → Stands w servers → Reaches w (λ later. Stands later (step_at (crashed keeps) servers host))
+pub crashes-run : (w : World) (servers : List Server) (host : List ℕ) (keeps : Server → Bool) → IsAlone w → Stands w servers → Reaches w (λ later. Stands later (step_at (λ s. crashed (keeps s) s) servers host))
 crashes-run w servers host keeps reached stands = by_case (server_at servers host) refl
   where
-    by_case : (o : Option Server) → server_at servers host ≡ o → Reaches w (λ later. Stands later (step_at (crashed keeps) servers host))
-    by_case None none = stays _ w (stands-nowhere w servers host (crashed keeps) (λ s own. own) none stands)
+    by_case : (o : Option Server) → server_at servers host ≡ o → Reaches w (λ later. Stands later (step_at (λ s. crashed (keeps s) s) servers host))
+    by_case None none = stays _ w (stands-nowhere w servers host (λ s. crashed (keeps s) s) (λ s own. own) none stands)
     by_case (Some server) there =
         let with = with-server w servers host server stands there in
         let legal = session-legal host area server.base server.calls (sessions-reached w (alone-reached w reached) host (session_of server) with.here) in
-        let next = (crashed keeps server).base in
+        let next = (crashed (keeps server) server).base in
         let later : World = changed w host (reopened (session_of server) next) w.answers in (
           later,
-          Goes_on w later Stays (Crashes host (session_of server) None w.answers next with.here Nothing (crash-next keeps server host with.own legal)),
-          with-stands later servers host (crashed keeps) server (λ s own. own) there (with-changed w servers host (crashed keeps server) w.answers with.own with.others),
+          Goes_on w later Stays (Crashes host (session_of server) None w.answers next with.here Nothing (crash-next (keeps server) server host with.own legal)),
+          with-stands later servers host (λ s. crashed (keeps s) s) server (λ s own. own) there (with-changed w servers host (crashed (keeps server) server) w.answers with.own with.others),
         )
 
 -- ---- new servers

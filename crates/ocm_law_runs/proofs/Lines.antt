@@ -7,7 +7,7 @@ use Rattle.ocm_script.specs.declared.events.Event.{Event}
 use Rattle.ocm_script.specs.declared.events.Event.TheVariants.{Quiet, Node, User, Local, Dav, Put, Carry, Clock, Offer, Notice, Raw, Deliver, Pump, Fuse, Crash}
 use Rattle.ocm_world_lines.specs.Deliveries as lines
 use Rattle.ocm_world_lines.specs.Deliveries.{next_wanting}
-use Rattle.ocm_world_lines.specs.Servers.{Server, server_at, step_at}
+use Rattle.ocm_world_lines.specs.Servers.{Server, is_kept, server_at, step_at}
 use Rattle.ocm_world_lines.specs.Talks.{config_of}
 use Rattle.ocm_world_lines.specs.Transcript.{IsRun, Talked, Transcript, plain, run}
 use Rattle.ocm_law_runs.specs.Standing.{Stands}
@@ -61,7 +61,7 @@ made-run w servers number wanting (Deliver host m fresh lost) reached stands = d
 made-run w servers number wanting (Pump host fresh) reached stands = pump-run w servers wanting number host fresh reached stands
 made-run w servers number wanting (Fuse host calls) reached stands =
     stays _ w (stands-same w servers host (λ server. record server { fuse = Some calls }) (λ server own. own) (λ server. refl) stands)
-made-run w servers number wanting (Crash host left) reached stands = crashes-run w servers host (next_wanting wanting) reached stands
+made-run w servers number wanting (Crash host left) reached stands = crashes-run w servers host (λ s. is_kept left s.cut) reached stands
 
 pub line-run : (w : World) (servers : List Server) (number : ℕ) (e : Event) (line : lines.Run) → IsAlone w → Stands w servers → IsRun servers number e line → Reaches w (λ later. Stands later line.world)
 line-run w servers number (Raw host fresh bytes) line reached stands talked = talked-run w servers number host fresh bytes (server_at servers host) line refl stands talked

@@ -17,7 +17,7 @@ use Rattle.ocm_script.specs.declared.events.Event.{Event}
 use Rattle.ocm_script.specs.declared.events.Event.TheVariants as events
 use Rattle.ocm_script.specs.Events.{host_of}
 use Rattle.ocm_world_lines.specs.Asked.{ask_of, letter_ask}
-use Rattle.ocm_world_lines.specs.Servers.{Server, World, new_server, reply_at, message_at, server_after, server_at, step_at, asked_at, crashed}
+use Rattle.ocm_world_lines.specs.Servers.{Server, World, new_server, reply_at, message_at, server_after, server_at, step_at, asked_at, crashed, is_kept, restart}
 use Rattle.ocm_world_lines.specs.Deliveries.{Run, next_wanting, others_wanting, settlement, answered, given, unreachable, delivered, all_delivered, nothing, pumped, pump, deliver}
 use Rattle.ocm_world_lines.specs.Talks.{Says, Replied, Answers, after_tick, asked_of, is_done, replied}
 use Rattle.ocm_world_lines.specs.Transcript.{Talked, named, clocked, plain, run}
@@ -258,7 +258,7 @@ kept-run Q P stays wanting world number (events.Clock at clock) host made has = 
 kept-run Q P stays wanting world number (events.Deliver at m fresh lost) host made has = kept-deliver Q P stays wanting world number at m fresh lost host has
 kept-run Q P stays wanting world number (events.Pump at fresh) host made has = kept-pump Q P stays wanting world number at fresh host has
 kept-run Q P stays wanting world number (events.Fuse at calls) host made has = kept-step Q P (λ (s : Server). record s { fuse = Some calls }) world at host (λ _ _. refl) (λ s _ _ h. stays.fused s calls h) has
-kept-run Q P stays wanting world number (events.Crash at left) host made has = kept-step Q P (crashed (next_wanting wanting)) world at host (λ _ _. refl) (λ s _ _ h. stays.crashed (next_wanting wanting) s h) has
+kept-run Q P stays wanting world number (events.Crash at left) host made has = kept-step Q P (restart left) world at host (λ _ _. refl) (λ s _ _ h. stays.crashed (is_kept left s.cut) s h) has
 kept-run Q P stays wanting world number e host made has = kept-plain Q P stays (next_wanting wanting) world number e host (host_of e) (ask_of e) has
 
 -- what stays true of a server over each ask, and over this line, holds after the line

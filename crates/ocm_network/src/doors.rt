@@ -3,43 +3,50 @@ ghost use Rattle.std.specs.Prelude.{◌≡◌, None};
 use crate::conns::StreamConn;
 use ocm_base::Failed;
 use ocm_connections::Ended;
+use ocm_exchanges::Delivering;
 use ocm_server::Door;
-use ocm_sockets::Entrance;
-use std::alloc::{AllocError, Global};
-use std::sync::{Arc, Wait};
+use ocm_sockets::Serving;
+use std::sync::Wait;
 use std::time;
 
-/// How many bytes one read takes ahead.
-const PIECE: usize = 65_536;
-
-/// One worker's door to the entrance that all workers share: it gives a connection once a whole message of it is here.
-/// It tells nothing, and no fault of one connection is its own.
-pub struct TcpDoor<'a, R: Wait + time::Clock> {
-    entrance: Arc<Entrance<'a, R>, Global>,
-    piece: Vec<u8>,
+/// One worker's door, of either kind. It tells nothing, and no fault of one connection is its own.
+#[derive(Drop)]
+pub enum NetDoor<'a, R: Wait + time::Clock> {
+    /// Gives a connection once a whole message of it is here.
+    Serving(Serving<'a, R>),
+    /// Gives an empty connection where something may be due to other servers, so that a round of delivery follows.
+    Delivering(Delivering<'a, R>),
 }
 
-impl<R: Wait + time::Clock> Drop for TcpDoor<'_, R> {
-    fn drop(self) {
-        let TcpDoor {
-            entrance: _,
-            piece: _,
-        } = self;
+/// Takes a connection back after its service.
+fn take_back<'a, R: Wait + time::Clock>(
+    serving: &mut Serving<'a, R>,
+    conn: StreamConn<'a, R>,
+    ended: Ended,
+) {
+    let is_sound = conn.is_sound();
+    let Some(line) = conn.into_line() else {
+        return;
+    };
+    if !is_sound {
+        serving.close(line);
+    } else if ended == Ended::Closed && line.is_resting() {
+        serving.rest(line);
+    } else {
+        serving.finish(line);
     }
 }
 
-impl<'a, R: Wait + time::Clock> TcpDoor<'a, R> {
-    /// A door to this entrance.
-    pub fn new(
-        alloc: Global,
-        entrance: Arc<Entrance<'a, R>, Global>,
-    ) -> Result<TcpDoor<'a, R>, AllocError> {
-        let piece = Vec::from_elem(alloc, 0, PIECE)?;
-        Ok(TcpDoor { entrance, piece })
+/// An empty connection where a round of delivery is to follow, or the end.
+fn round_of<'a, R: time::Clock>(goes_on: bool) -> Option<StreamConn<'a, R>> {
+    if goes_on {
+        Some(StreamConn::empty())
+    } else {
+        None
     }
 }
 
-impl<'a, R: Wait + time::Clock> Door for TcpDoor<'a, R> {
+impl<'a, R: Wait + time::Clock> Door for NetDoor<'a, R> {
     type Conn = StreamConn<'a, R>;
 
     ghost told = { λ _. None };
@@ -47,18 +54,16 @@ impl<'a, R: Wait + time::Clock> Door for TcpDoor<'a, R> {
     ghost faults = { λ _. 0 };
 
     fn next(&mut self) -> Result<Option<StreamConn<'a, R>>, Failed> {
-        Ok(self.entrance.give(&mut self.piece).map(StreamConn::new))
+        match self {
+            NetDoor::Serving(serving) => Ok(serving.give().map(StreamConn::new)),
+            NetDoor::Delivering(delivering) => Ok(round_of(delivering.next())),
+        }
     }
 
     fn done(&mut self, conn: StreamConn<'a, R>, ended: Ended) {
-        let is_sound = conn.is_sound();
-        let line = conn.into_line();
-        if !is_sound {
-            self.entrance.close(line);
-        } else if ended == Ended::Closed && line.is_resting() {
-            self.entrance.rest(line);
-        } else {
-            self.entrance.finish(line);
+        match self {
+            NetDoor::Serving(serving) => take_back(serving, conn, ended),
+            NetDoor::Delivering(_) => drop(conn),
         }
     }
 }

@@ -7,8 +7,7 @@
 mod conns;
 mod dials;
 mod doors;
-mod judges;
 
 pub use conns::StreamConn;
-pub use dials::TcpDial;
-pub use doors::TcpDoor;
+pub use dials::{ClientDial, TcpDial};
+pub use doors::NetDoor;

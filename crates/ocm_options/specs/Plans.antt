@@ -1,5 +1,5 @@
--- The options of `serve`, and what is planned by them.
-use Rattle.std.specs.Prelude.{◌≡◌, ℕ, Bool, true, false, ◌&&◌, nat_le, List, [], ◌∷◌, Option, Some, None, option_and_then, Result, Ok, Err, String, string_bytes, codes, bytes_eq, map, if◌then◌else◌}
+-- The options of `serve`, and what they order.
+use Rattle.std.specs.Prelude.{◌≡◌, ℕ, Bool, true, false, ◌&&◌, nat_le, List, [], ◌∷◌, Option, Some, None, option_and_then, option_map, Result, Ok, Err, String, string_bytes, codes, bytes_eq, map, if◌then◌else◌}
 use Rattle.std.specs.Result.{result_ok}
 use Rattle.std.specs.declared.alloc.Global.{Global}
 use Rattle.clap.specs.declared.builder.action.ArgAction.TheVariants.{Set}
@@ -10,6 +10,9 @@ use Rattle.ocm_limits.specs.Limits.{most_workers}
 use Rattle.ocm_types.specs.Hosts.{host_of}
 use Rattle.ocm_types.specs.Texts.{secret_of}
 use Rattle.ocm_options.specs.declared.plans.Plan.{Plan}
+use Rattle.ocm_options.specs.declared.plans.Orders.{Orders}
+use Rattle.ocm_options.specs.declared.plans.AdminKey.{AdminKey}
+use Rattle.ocm_options.specs.declared.plans.AdminKey.TheVariants.{Key, File}
 use Rattle.ocm_options.specs.declared.plans.PlanFault.{PlanFault}
 use Rattle.ocm_options.specs.declared.plans.PlanFault.TheVariants.{Usage, NoMemory}
 use Rattle.ocm_options.specs.declared.options.Numbers.{Numbers}
@@ -26,10 +29,10 @@ needed name = record (option name) { required = true }
 abbrev pub optional : Text → Text → Rule
 optional name value = record (option name) { defaults = value ∷ [] }
 
--- the command: seven options, each of one value, and nothing else
+-- the command: eight options, each of one value, and nothing else
 abbrev pub serve : App
-serve = with_rule (with_rule (with_rule (with_rule (with_rule (with_rule (with_rule (on_top (λ s. record s { disable_help_flag = true }) (new_app (codes "serve")))
-    (needed (codes "host"))) (needed (codes "disk"))) (needed (codes "admin")))
+serve = with_rule (with_rule (with_rule (with_rule (with_rule (with_rule (with_rule (with_rule (on_top (λ s. record s { disable_help_flag = true }) (new_app (codes "serve")))
+    (needed (codes "host"))) (needed (codes "disk"))) (option (codes "admin"))) (option (codes "admin-file")))
     (optional (codes "listen") (codes "127.0.0.1:8080"))) (optional (codes "workers") (codes "4")))
     (optional (codes "key-file") (codes "/dev/urandom"))) (optional (codes "connections") (codes "0"))
 
@@ -70,16 +73,23 @@ abbrev pub read_host : List ℕ → Option (List ℕ)
 read_host text = result_ok (host_of text)
 
 -- a key's text as it is read
-abbrev pub read_admin : List ℕ → Option (List ℕ)
-read_admin text = secret_of text
+abbrev pub read_admin : List ℕ → Option AdminKey
+read_admin text = option_map Key (secret_of text)
 
 -- the host
 abbrev pub host_at : List Row → Option (List ℕ)
 host_at rows = first_of (codes "host") rows >>= read_host
 
--- the key of the administrator
-abbrev pub admin_at : List Row → Option (List ℕ)
-admin_at rows = first_of (codes "admin") rows >>= read_admin
+-- the key of the administrator by the values of `--admin` and `--admin-file`: exactly one of the two is there
+abbrev pub admin_by : Option (List ℕ) → Option (List ℕ) → Option AdminKey
+admin_by (Some text) None = read_admin text
+admin_by None (Some path) = Some (File path)
+admin_by (Some text) (Some path) = None
+admin_by None None = None
+
+-- the key of the administrator, or the file that holds it
+abbrev pub admin_at : List Row → Option AdminKey
+admin_at rows = admin_by (first_of (codes "admin") rows) (first_of (codes "admin-file") rows)
 
 -- who the server is
 unfoldable pub names_at : List Row → Option Names
@@ -96,17 +106,21 @@ places_at rows = do
   key_file ← first_of (codes "key-file") rows
   Some (record { disk = disk; listen = listen; key_file = key_file })
 
--- the plan by the values of the options
-unfoldable pub plan_by : List Row → Option Plan
-plan_by rows = do
+-- the orders by the values of the options
+unfoldable pub orders_by : List Row → Option Orders
+orders_by rows = do
   numbers ← numbers_at rows
   names ← names_at rows
   places ← places_at rows
   Some (record { host = names.host; disk = places.disk; admin = names.admin; listen = places.listen; workers = numbers.workers; key_file = places.key_file; connections = numbers.connections })
 
--- the plan by the words
-unfoldable pub plan_of : List Text → Option Plan
-plan_of words = if asks_serve words && is_none (fault_of serve words) then plan_by (matches_of serve words) else None
+-- the orders by the words
+unfoldable pub orders_of : List Text → Option Orders
+orders_of words = if asks_serve words && is_none (fault_of serve words) then orders_by (matches_of serve words) else None
+
+-- the plan of orders, with the administrator's key
+abbrev pub plan_with : Orders → List ℕ → Plan
+plan_with orders admin = record { host = orders.host; disk = orders.disk; admin = admin; listen = orders.listen; workers = orders.workers; key_file = orders.key_file; connections = orders.connections }
 
 -- what reading gave: a value, or none exactly at Usage; want of memory is free
 abbrev pub Reads : {A : Type 0} → Result A PlanFault → Option A → Type 0

@@ -1,11 +1,11 @@
 //! The values of the options.
 
-ghost use Rattle.std.specs.Prelude.{◌≡◌, IfOk, codes, option_copied, option_map};
+ghost use Rattle.std.specs.Prelude.{◌≡◌, Some, IfOk, codes, option_copied, option_map};
 ghost use Rattle.clap.specs.Words.{found_of, rows_of, first_of};
 ghost use Rattle.ocm_options.specs.Plans as plans;
 ghost use Rattle.ocm_options.specs.Plans.{Reads};
 
-use crate::plans::PlanFault;
+use crate::plans::{AdminKey, PlanFault};
 use clap::ArgMatches;
 use ocm_base::{NoMemory, Text, decimal_read};
 use ocm_limits::MOST_WORKERS;
@@ -23,7 +23,7 @@ pub(crate) struct Numbers {
 #[derive(Drop)]
 pub(crate) struct Names {
     pub host: Host,
-    pub admin: Secret,
+    pub admin: AdminKey,
 }
 
 /// Texts that are taken as they are.
@@ -86,13 +86,22 @@ fn read_host(alloc: Global, text: &str) -> Result<Host, PlanFault>
     }
 }
 
-fn read_admin(alloc: Global, text: &str) -> Result<Secret, PlanFault>
+fn read_admin(alloc: Global, text: &str) -> Result<AdminKey, PlanFault>
     ensures { Reads result (plans.read_admin text.now) }
 {
     match Secret::read(alloc, text) {
-        Ok(secret) => Ok(secret),
+        Ok(secret) => Ok(AdminKey::Key(secret)),
         Err(TextFault::NoMemory) => Err(PlanFault::NoMemory),
         Err(_) => Err(PlanFault::Usage),
+    }
+}
+
+fn admin_file(alloc: Global, path: &str) -> Result<AdminKey, PlanFault>
+    ensures { Reads result (Some (AdminKey.File path.now)) }
+{
+    match Text::of(alloc, path) {
+        Ok(path) => Ok(AdminKey::File(path)),
+        Err(NoMemory) => Err(PlanFault::NoMemory),
     }
 }
 
@@ -105,12 +114,14 @@ fn host_at(alloc: Global, matches: &ArgMatches<'_>) -> Result<Host, PlanFault>
     }
 }
 
-fn admin_at(alloc: Global, matches: &ArgMatches<'_>) -> Result<Secret, PlanFault>
+/// The administrator's key, or the file that holds it.
+fn admin_at(alloc: Global, matches: &ArgMatches<'_>) -> Result<AdminKey, PlanFault>
     ensures { Reads result (plans.admin_at (rows_of (found_of matches.now))) }
 {
-    match value_at(matches, "admin") {
-        Some(text) => read_admin(alloc, text),
-        None => Err(PlanFault::Usage),
+    match (value_at(matches, "admin"), value_at(matches, "admin-file")) {
+        (Some(text), None) => read_admin(alloc, text),
+        (None, Some(path)) => admin_file(alloc, path),
+        _ => Err(PlanFault::Usage),
     }
 }
 

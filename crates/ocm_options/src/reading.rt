@@ -1,20 +1,20 @@
-//! The words of a command line, read as a plan.
+//! The words of a command line, read as orders.
 
 ghost use Rattle.std.specs.Prelude.{◌≡◌, IfOk};
 ghost use Rattle.clap.specs.Words.{found_of, rows_of, matches_of, fault_of, FailsBy, kind_of};
 ghost use Rattle.clap.specs.declared.error.kind.ErrorKind.TheVariants.{OutOfMemory};
 ghost use Rattle.ocm_options.specs.Plans as plans;
-ghost use Rattle.ocm_options.specs.Plans.{Reads, plan_by, plan_of, serve, texts};
+ghost use Rattle.ocm_options.specs.Plans.{Reads, orders_by, orders_of, serve, texts};
 
 use crate::commands::serve_command;
 use crate::options::{names_at, numbers_at, places_at};
-use crate::plans::{Plan, PlanFault};
+use crate::plans::{Orders, PlanFault};
 use clap::error::ErrorKind;
 use clap::{ArgMatches, Error};
 use std::alloc::Global;
 
-/// Whether the first word asks for a server.
-fn asks_serve(words: &[String]) -> bool
+/// Whether the words behind the program's name ask for a running server.
+pub fn asks_serve(words: &[String]) -> bool
     ensures { result ≡ plans.asks_serve (texts words.now) }
 {
     match words {
@@ -32,7 +32,7 @@ fn read_matches<'a>(alloc: Global, words: &'a [String]) -> Result<ArgMatches<'a>
     command.try_get_matches_from(words)
 }
 
-/// Why there is no plan, where the command refuses.
+/// Why there are no orders, where the command refuses.
 fn fault_by(error: &Error) -> PlanFault
     ensures memory { result ≡ PlanFault.NoMemory → kind_of error.now ≡ OutOfMemory }
     ensures usage { result ≡ PlanFault.Usage → kind_of error.now ≡ OutOfMemory → ⊥ }
@@ -43,17 +43,17 @@ fn fault_by(error: &Error) -> PlanFault
     }
 }
 
-/// The plan by the values of the options.
-#[tactic(auto, unfolding(crate::specs::Plans::plan_by))]
-fn plan_by_options(alloc: Global, matches: &ArgMatches<'_>) -> Result<Plan, PlanFault>
-    ensures { Reads result (plan_by (rows_of (found_of matches.now))) }
+/// The orders by the values of the options.
+#[tactic(auto, unfolding(crate::specs::Plans::orders_by))]
+fn orders_by_options(alloc: Global, matches: &ArgMatches<'_>) -> Result<Orders, PlanFault>
+    ensures { Reads result (orders_by (rows_of (found_of matches.now))) }
 {
     let Some(numbers) = numbers_at(matches) else {
         return Err(PlanFault::Usage);
     };
     let names = names_at(alloc, matches)?;
     let places = places_at(alloc, matches)?;
-    Ok(Plan {
+    Ok(Orders {
         host: names.host,
         disk: places.disk,
         admin: names.admin,
@@ -64,16 +64,17 @@ fn plan_by_options(alloc: Global, matches: &ArgMatches<'_>) -> Result<Plan, Plan
     })
 }
 
-/// Reads the words behind a program's name: `serve` and its options `--host`, `--disk`, `--admin`, `--listen`,
-/// `--workers`, `--key-file` and `--connections`, each of one value. The first three have to be there.
-pub fn read_plan(alloc: Global, words: &[String]) -> Result<Plan, PlanFault>
-    ensures { Reads result (plan_of (texts words.now)) }
+/// Reads the words behind a program's name: `serve` and its options `--host`, `--disk`, `--admin`,
+/// `--admin-file`, `--listen`, `--workers`, `--key-file` and `--connections`, each of one value. The first two are required, and
+/// of the next two exactly one.
+pub fn read_plan(alloc: Global, words: &[String]) -> Result<Orders, PlanFault>
+    ensures { Reads result (orders_of (texts words.now)) }
 {
     if !asks_serve(words) {
         return Err(PlanFault::Usage);
     }
     match read_matches(alloc, words) {
-        Ok(matches) => plan_by_options(alloc, &matches),
+        Ok(matches) => orders_by_options(alloc, &matches),
         Err(error) => Err(fault_by(&error)),
     }
 }

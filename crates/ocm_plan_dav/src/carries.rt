@@ -1,5 +1,5 @@
 //! COPY and MOVE (RFC 4918 sections 9.8 and 9.9).
-ghost use Rattle.std.specs.Prelude.{◌≡◌, Bool, true, false, not, ◌&&◌, None, is_some, IfOk, IsTrue};
+ghost use Rattle.std.specs.Prelude.{◌≡◌, Bool, true, false, not, ◌&&◌, None, length, is_some, IfOk, IsTrue};
 ghost use Rattle.std.specs.Option.{IsSomeAnd};
 ghost use Rattle.ocm_path.specs.Paths.{is_root};
 ghost use Rattle.ocm_entry.specs.declared.asks.Ask.TheVariants as asks;
@@ -7,6 +7,7 @@ ghost use Rattle.ocm_entry.specs.Proper.{is_proper};
 ghost use Rattle.ocm_rules.specs.Answers.{carries_root, is_collection};
 ghost use Rattle.ocm_rules.specs.Files.{limit_of_carry, overlap, parent_of};
 ghost use Rattle.ocm_rules.specs.State.{node_at, view_in};
+ghost use Rattle.ocm_tables.specs.Tables.{GrantCost};
 ghost use Rattle.ocm_plan.specs.Plans.{Plans};
 ghost use Rattle.ocm_plan_dav.specs.Requests.{PlansCarry};
 
@@ -16,22 +17,26 @@ use ocm_base::NoMemory;
 use ocm_entry::{Place, Why};
 use ocm_path::Path;
 use ocm_plan::Planned;
-use ocm_tables::{Change, Tables};
+use ocm_tables::{Change, Probes, Tables};
 use ocm_types::Secret;
+use std::sync::ledger::Ledger;
 
-/// Plans a copy, or a move where it is moving, by the holder of the secret.
-pub fn plan_carry(
+/// Plans a copy, or a move where it is moving, by the holder of the secret. What it costs to look at
+/// shares is counted.
+pub fn plan_carry<I: Ledger, R: Ledger>(
     tables: &Tables,
     secret: &Secret,
     from: &Path,
     to: &Path,
     moving: bool,
     overwrite: bool,
+    probes: &mut Probes<I, R>,
 ) -> Result<Planned, NoMemory>
     requires { IsTrue (is_proper (asks.Carry secret.now from.now to.now moving overwrite)) }
-    ensures { IfOk result (λ plan. Plans tables.now.state (asks.Carry secret.now from.now to.now moving overwrite) plan) }
+    ensures plans { IfOk result (λ plan. Plans tables.now.state (asks.Carry secret.now from.now to.now moving overwrite) plan) }
+    ensures cost { GrantCost (length tables.now.state.shares) probes.old probes.new }
 {
-    let Some(grant) = tables.grant(secret)? else {
+    let Some(grant) = tables.grant(secret, probes)? else {
         return Ok(Planned::refused(tables, Why::Unauthorized));
     };
     if !permits_carry(grant.rights, moving) {
@@ -77,7 +82,7 @@ fn plan_carried(
     if is_occupied(tables, to, overwrite) {
         return Ok(Planned::refused(tables, Why::Occupied));
     }
-    if let Some(which) = tables.files().limit_of_carry(from, to, moving) {
+    if let Some(which) = tables.files().limit_of_carry(from, to, &parent, moving) {
         return Ok(Planned::refused(tables, Why::Limit { which }));
     }
     carry(tables, from, to, moving)

@@ -1,7 +1,8 @@
 //! Requests for files (RFC 4918) by the holders of secrets.
-ghost use Rattle.std.specs.Prelude.{IfOk, IsTrue};
+ghost use Rattle.std.specs.Prelude.{length, IfOk, IsTrue};
 ghost use Rattle.ocm_entry.specs.declared.asks.Ask.TheVariants as asks;
 ghost use Rattle.ocm_entry.specs.Proper.{is_proper, is_short};
+ghost use Rattle.ocm_tables.specs.Tables.{GrantCost};
 ghost use Rattle.ocm_plan.specs.Plans.{Plans};
 ghost use Rattle.ocm_plan_dav.specs.Requests.{PlansMethod};
 
@@ -12,22 +13,25 @@ use ocm_base::{Bytes, NoMemory};
 use ocm_entry::{Method, Place, Why};
 use ocm_path::Path;
 use ocm_plan::Planned;
-use ocm_tables::Tables;
+use ocm_tables::{Probes, Tables};
 use ocm_types::Secret;
+use std::sync::ledger::Ledger;
 
 /// Plans a request for files by the holder of the secret: GET, HEAD (RFC 9110 section 9.3), PUT, DELETE,
-/// MKCOL or PROPFIND (RFC 4918 section 9).
-pub fn plan_dav(
+/// MKCOL or PROPFIND (RFC 4918 section 9). What it costs to look at shares is counted.
+pub fn plan_dav<I: Ledger, R: Ledger>(
     tables: &Tables,
     secret: &Secret,
     method: Method,
     path: &Path,
     body: &Bytes,
+    probes: &mut Probes<I, R>,
 ) -> Result<Planned, NoMemory>
     requires { IsTrue (is_proper (asks.Dav secret.now method path.now body.now)) }
-    ensures { IfOk result (λ plan. Plans tables.now.state (asks.Dav secret.now method path.now body.now) plan) }
+    ensures plans { IfOk result (λ plan. Plans tables.now.state (asks.Dav secret.now method path.now body.now) plan) }
+    ensures cost { GrantCost (length tables.now.state.shares) probes.old probes.new }
 {
-    let Some(grant) = tables.grant(secret)? else {
+    let Some(grant) = tables.grant(secret, probes)? else {
         return Ok(Planned::refused(tables, Why::Unauthorized));
     };
     if !permits(grant.rights, method) {

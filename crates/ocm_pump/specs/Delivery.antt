@@ -17,6 +17,7 @@ use Rattle.ocm_records.specs.Rows.{record_of, required}
 use Rattle.ocm_records.specs.Written.{offer_data, notice_data}
 use Rattle.ocm_records.specs.declared.faults.Field.TheVariants.{ProviderId}
 use Rattle.ocm_records.specs.declared.faults.RecordFault.{RecordFault}
+use Rattle.ocm_rules.specs.Settlements.{settles}
 use Rattle.ocm_pump.specs.Replies.{Sends, Gives}
 use Rattle.ocm_pump.specs.Sites.{site_read}
 use Rattle.ocm_pump.specs.declared.exchanges.Exchange.{Exchange}
@@ -144,3 +145,8 @@ pub data Delivers (message : Numbered) (added : List Exchange) (result : Result 
   posted : (before after : List Exchange) (site : Site)
       → Discovers message.to before (Ok site) → Posts site message.letter after result
       → added ≡ after ++ before → Delivers message added result
+
+-- whether what came of a delivery settles its letter: an answer does by its status and mark, and a fault never does
+abbrev pub is_settled : Letter → Result Answered PumpFault → Bool
+is_settled letter (Ok answered) = settles letter answered.status answered.id
+is_settled letter (Err fault) = false

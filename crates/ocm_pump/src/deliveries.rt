@@ -14,6 +14,7 @@ use crate::searches::discover;
 use crate::sites::Site;
 use ocm_base::{Bytes, NoMemory};
 use ocm_http::{Head, Message, write_request};
+use ocm_letters::settles;
 use ocm_records::{RecordFault, write_notice, write_offer};
 use ocm_types::{Letter, Notice, Numbered, ProviderId};
 use std::alloc::Global;
@@ -137,14 +138,41 @@ fn post<N: Dial>(
     ensures exact { AddsSome (N.exchanges dial.old) (N.exchanges dial.new) (λ added. Posts site.now letter.now added result) }
     ensures dial_fault { result ≡ Err PumpFault.DialFault → Rose (N.faults dial.old) (N.faults dial.new) }
     ensures never_falls { N.faults dial.old ≤ N.faults dial.new }
+    ensures kind { N.delivers dial.new ≡ N.delivers dial.old }
 {
     let request = post_request(alloc, site, letter)?;
     let sent = send(alloc, dial, &site.host, &request);
     answer_in(alloc, letter, sent)
 }
 
+/// Finds the document of the server that a letter is for, and posts the letter to the end point that it names.
+fn find_and_post<N: Dial>(
+    alloc: Global,
+    dial: &mut N,
+    message: &Numbered,
+) -> Result<Answered, PumpFault>
+    ensures exact { AddsSome (N.exchanges dial.old) (N.exchanges dial.new) (λ added. Delivers message.now added result) }
+    ensures dial_fault { result ≡ Err PumpFault.DialFault → Rose (N.faults dial.old) (N.faults dial.new) }
+    ensures never_falls { N.faults dial.old ≤ N.faults dial.new }
+    ensures kind { N.delivers dial.new ≡ N.delivers dial.old }
+{
+    let site = discover(alloc, dial, &message.to)?;
+    post(alloc, dial, &site, &message.letter)
+}
+
+/// Whether what came of a delivery settles its letter.
+fn is_settled(letter: &Letter, delivered: &Result<Answered, PumpFault>) -> bool
+    ensures { result ≡ delivery.is_settled letter.now delivered.now }
+{
+    match delivered {
+        Ok(answered) => settles(letter, answered.status, answered.id.as_ref()),
+        Err(_) => false,
+    }
+}
+
 /// Delivers a letter to the server that it is for: finds that server's document, posts the letter's record to the end
-/// point that it names, without credentials, and answers what came back (Open Cloud Mesh API 1.1).
+/// point that it names, without credentials, and answers what came back (Open Cloud Mesh API 1.1). The dial is told
+/// whether that settles the letter.
 pub fn deliver<N: Dial>(
     alloc: Global,
     dial: &mut N,
@@ -154,7 +182,10 @@ pub fn deliver<N: Dial>(
     ensures exact { AddsSome (N.exchanges dial.old) (N.exchanges dial.new) (λ added. Delivers message.now added result) }
     ensures dial_fault { result ≡ Err PumpFault.DialFault → Rose (N.faults dial.old) (N.faults dial.new) }
     ensures never_falls { N.faults dial.old ≤ N.faults dial.new }
+    ensures kind { N.delivers dial.new ≡ N.delivers dial.old }
 {
-    let site = discover(alloc, dial, &message.to)?;
-    post(alloc, dial, &site, &message.letter)
+    let delivered = find_and_post(alloc, dial, message);
+    let settled = is_settled(&message.letter, &delivered);
+    dial.came(&message.to, settled);
+    delivered
 }

@@ -1,4 +1,4 @@
-ghost use Rattle.std.specs.Prelude.{◌≡◌, ◌+◌, ◌≤◌, min, [], length, take, reverse, Some, None, Ok, Err, IfOk, IfSome, option_copied};
+ghost use Rattle.std.specs.Prelude.{◌≡◌, ◌+◌, ◌≤◌, min, [], length, take, reverse, true, Some, None, Ok, Err, IfOk, IfSome, option_copied};
 ghost use Rattle.ocm_base.specs.Outside.{Rose};
 ghost use Rattle.ocm_limits.specs.Limits.{most_exchange_bytes};
 ghost use Rattle.ocm_pump.specs.Exchanges.{AddsOne};
@@ -125,6 +125,12 @@ impl Dial for MemDial {
 
     ghost faults = { λ d. d.faults };
 
+    ghost delivers = { λ _. true };
+
+    fn delivers(&self) -> bool {
+        true
+    }
+
     /// Gives the next reply, and fails exactly where that is None or there is none. Where there is no memory nothing is
     /// changed.
     fn exchange(&mut self, alloc: Global, host: &Host, request: &Bytes) -> Result<Bytes, DialEnd>
@@ -132,6 +138,7 @@ impl Dial for MemDial {
         ensures added { AddsOne (Some self.old.exchanges) (Some self.new.exchanges) host.now request.now result }
         ensures rose { result ≡ Err DialEnd.Failed → Rose self.old.faults self.new.faults }
         ensures never_falls { self.old.faults ≤ self.new.faults }
+        ensures kind { true ≡ true }
         ensures came { IfOk result (λ reply. memory.next_of self.old.replies ≡ Some reply) }
         ensures fails { result ≡ Err DialEnd.Failed → memory.next_of self.old.replies ≡ None }
         ensures moved { (result ≡ Err DialEnd.NoMemory → ⊥) → self.new ≡ memory.after_exchange self.old host.now request.now }

@@ -55,6 +55,7 @@ pub fn send<N: Dial>(
     ensures exact { AddsSome (N.exchanges dial.old) (N.exchanges dial.new) (λ added. Sends host.now request.now added result) }
     ensures dial_fault { result ≡ Err PumpFault.DialFault → Rose (N.faults dial.old) (N.faults dial.new) }
     ensures never_falls { N.faults dial.old ≤ N.faults dial.new }
+    ensures kind { N.delivers dial.new ≡ N.delivers dial.old }
 {
     match dial.exchange(alloc, host, request) {
         Ok(bytes) => read_reply(alloc, bytes),

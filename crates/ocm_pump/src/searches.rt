@@ -62,6 +62,7 @@ fn ask<N: Dial>(
     ensures exact { AddsSome (N.exchanges dial.old) (N.exchanges dial.new) (λ added. Asks host.now place.now added result) }
     ensures dial_fault { result ≡ Err PumpFault.DialFault → Rose (N.faults dial.old) (N.faults dial.new) }
     ensures never_falls { N.faults dial.old ≤ N.faults dial.new }
+    ensures kind { N.delivers dial.new ≡ N.delivers dial.old }
 {
     let request = document_request(alloc, host, place)?;
     let sent = send(alloc, dial, host, &request);
@@ -84,6 +85,7 @@ fn ask_last<N: Dial>(alloc: Global, dial: &mut N, host: &Host) -> Result<Site, P
     ensures exact { AddsSome (N.exchanges dial.old) (N.exchanges dial.new) (λ added. AsksLast host.now added result) }
     ensures dial_fault { result ≡ Err PumpFault.DialFault → Rose (N.faults dial.old) (N.faults dial.new) }
     ensures never_falls { N.faults dial.old ≤ N.faults dial.new }
+    ensures kind { N.delivers dial.new ≡ N.delivers dial.old }
 {
     let found = ask(alloc, dial, host, "/ocm-provider/");
     found_at_last(found)
@@ -95,6 +97,7 @@ pub fn discover<N: Dial>(alloc: Global, dial: &mut N, host: &Host) -> Result<Sit
     ensures exact { AddsSome (N.exchanges dial.old) (N.exchanges dial.new) (λ added. Discovers host.now added result) }
     ensures dial_fault { result ≡ Err PumpFault.DialFault → Rose (N.faults dial.old) (N.faults dial.new) }
     ensures never_falls { N.faults dial.old ≤ N.faults dial.new }
+    ensures kind { N.delivers dial.new ≡ N.delivers dial.old }
 {
     let first = ask(alloc, dial, host, "/.well-known/ocm")?;
     match first {

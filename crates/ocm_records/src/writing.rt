@@ -24,7 +24,7 @@ pub fn bytes_of(alloc: Global, value: &Value) -> Result<Bytes, NoMemory>
     ensures reads_back { IfOk result (λ b. depth (view value.now) ≤ 127 → json_of b ≡ Some (view value.now)) }
 {
     let text = value.to_vec(alloc)?;
-    Ok(Bytes::from_vec(text))
+    Ok(Bytes::from_vec(text).shared()?)
 }
 
 /// Adds a word to a list, where it is held.

@@ -80,6 +80,7 @@ fn deliver_all<T: Object, N: Dial, R: Wait>(
     ensures below { result.end ≢ RoundEnd.Spent → pass.new.drawn < node.now.limit }
     ensures own { BelongsTo node.now pass.new }
     ensures never_falls { N.faults dial.old ≤ N.faults dial.new }
+    ensures kind { N.delivers dial.new ≡ N.delivers dial.old }
 {
     let mut answered = 0;
     for message in messages {
@@ -114,6 +115,7 @@ fn answer_due<T: Object, N: Dial, R: Wait>(
     ensures below { result.end ≢ RoundEnd.Spent → pass.new.drawn < node.now.limit }
     ensures own { BelongsTo node.now pass.new }
     ensures never_falls { N.faults dial.old ≤ N.faults dial.new }
+    ensures kind { N.delivers dial.new ≡ N.delivers dial.old }
 {
     if is_no_memory(reply) {
         return Pumped {
@@ -147,6 +149,7 @@ pub fn pump_round<T: Object, N: Dial, R: Wait>(
     ensures below { result.end ≢ RoundEnd.Spent → pass.new.drawn < node.now.limit }
     ensures own { BelongsTo node.now pass.new }
     ensures never_falls { N.faults dial.old ≤ N.faults dial.new }
+    ensures kind { N.delivers dial.new ≡ N.delivers dial.old }
 {
     match ask_node(rt, node, pass, Ask::Due) {
         Ok(reply) => answer_due(rt, alloc, node, pass, dial, &reply),

@@ -118,6 +118,7 @@ pub(crate) fn try_message<T: Object, N: Dial, R: Wait>(
     ensures below { result.end ≢ RoundEnd.Spent → pass.new.drawn < node.now.limit }
     ensures own { BelongsTo node.now pass.new }
     ensures never_falls { N.faults dial.old ≤ N.faults dial.new }
+    ensures kind { N.delivers dial.new ≡ N.delivers dial.old }
 {
     match deliver(alloc, dial, message) {
         Ok(answered) => settle(rt, node, pass, message, answered),

@@ -192,7 +192,7 @@ impl Body {
             Body::Given(bytes) => bytes.copy(),
             Body::Fill { byte, count } => {
                 let filled = vec![in alloc; *byte; *count as usize]?;
-                Ok(Bytes::from_vec(filled))
+                Ok(Bytes::from_vec(filled).shared()?)
             }
         }
     }

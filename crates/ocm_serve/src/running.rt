@@ -7,10 +7,9 @@ use ocm_base::Clock;
 use ocm_disk::Disk;
 use ocm_options::Plan;
 use ocm_pump::Dial;
-use ocm_serve_store::serve;
+use ocm_serve_store::{Followed, serve};
 use ocm_serve_system::{OpenFault, Opening, ToldDisk, tell_end, tell_fault, tell_place};
 use ocm_server::{Door, Worker};
-use ocm_store::Store;
 use std::alloc::Global;
 use std::fs::File;
 use std::io::Eprint;
@@ -38,9 +37,12 @@ pub fn run<
         Ok(opening) => opening,
         Err(fault) => return tell_fault(rt, fault),
     };
-    let Ok(workers) = workers_for(rt, alloc, plan, &opening) else {
-        drop(opening);
-        return tell_fault(rt, OpenFault::NoMemory);
+    let workers = match workers_for(rt, alloc, plan, &opening) {
+        Ok(workers) => workers,
+        Err(error) => {
+            drop(opening);
+            return tell_fault(rt, OpenFault::of_listening(&error));
+        }
     };
     tell_place(rt, &opening);
     let (disk, draw_key) = opening.into_disk();
@@ -58,7 +60,7 @@ fn run_workers<
     rt: &R,
     alloc: Global,
     plan: &Plan,
-    mut workers: Vec<Worker<Store<D>, L, N, K>>,
+    mut workers: Vec<Worker<Followed<D>, L, N, K>>,
     disk: D,
     draw_key: [u8; 32],
 ) -> u8

@@ -4,19 +4,23 @@ ghost use Rattle.std.specs.Prelude.{◌≡◌, ◌+◌, None, All, IfOk, OnOk, v
 use ocm_base::{Clock, StdClock};
 use ocm_connections::Draw;
 use ocm_entry::Object;
-use ocm_network::{TcpDial, TcpDoor};
+use ocm_exchanges::{Delivering, Exchanges};
+use ocm_network::{NetDoor, TcpDial};
 use ocm_options::Plan;
 use ocm_pump::Dial;
 use ocm_serve_system::Opening;
 use ocm_server::{Door, Worker};
-use ocm_sockets::Pauses;
-use std::alloc::{AllocError, Global};
+use ocm_sockets::Serving;
+use std::alloc::Global;
+use std::io::Eprint;
 use std::net::{Net, TcpListener, TcpStream};
 use std::sync::{Arc, Wait};
-use std::time;
+use std::thread::Threads;
+use std::{io, time};
 
-/// A worker with its door and dial over TCP, and the system's clock.
-pub type NetWorker<'a, T, R> = Worker<T, TcpDoor<'a, R>, TcpDial<'a, R>, StdClock<'a, R>>;
+/// A worker with its door and dial over TCP, and the system's clock: one that serves connections and makes no exchange, or
+/// one that delivers.
+pub type NetWorker<'a, T, R> = Worker<T, NetDoor<'a, R>, TcpDial<'a, R>, StdClock<'a, R>>;
 
 /// Puts a worker without a pass behind others.
 fn add<T: Object, L: Door, N: Dial, K: Clock>(
@@ -25,7 +29,7 @@ fn add<T: Object, L: Door, N: Dial, K: Clock>(
     dial: N,
     draw: Draw,
     clock: K,
-) -> Result<(), AllocError>
+) -> io::Result<()>
     ensures count { OnOk result (vec_len workers.new ≡ vec_len workers.old + 1) }
     ensures fresh { OnOk result (All (λ w. w.pass ≡ None) workers.old.items → All (λ w. w.pass ≡ None) workers.new.items) }
 {
@@ -38,49 +42,75 @@ pub(crate) fn dismiss<T: Object, L: Door, N: Dial, K: Clock>(workers: Vec<Worker
     drop(workers);
 }
 
-/// Puts the worker of a number behind others, with a door of its own to what was opened.
-fn add_by_number<
+/// Puts the serving worker of a number behind others, with a door of its own to what was opened.
+fn add_serving<
     'a,
     T: Object,
-    R: Wait + time::Clock + Net<Listener = TcpListener, Stream = TcpStream>,
+    R: Threads + Wait + time::Clock + Eprint + Net<Listener = TcpListener, Stream = TcpStream>,
 >(
     rt: &'a R,
     alloc: Global,
-    opening: &Opening<'a, R>,
-    pauses: &Arc<Pauses, Global>,
+    opening: &Opening,
     number: u32,
     workers: &mut Vec<NetWorker<'a, T, R>>,
-) -> Result<(), AllocError>
+) -> io::Result<()>
     ensures count { OnOk result (vec_len workers.new ≡ vec_len workers.old + 1) }
     ensures fresh { OnOk result (All (λ w. w.pass ≡ None) workers.old.items → All (λ w. w.pass ≡ None) workers.new.items) }
 {
-    let door = TcpDoor::new(alloc, Arc::try_clone(&opening.entrance)?)?;
-    let dial = TcpDial::new(rt, Arc::try_clone(pauses)?);
+    let entrance = Arc::try_clone(&opening.entrance)?;
+    let door = NetDoor::Serving(Serving::new(rt, alloc, entrance, number as usize)?);
     let draw = Draw::new(opening.draw_key, u64::from(number));
-    add(workers, door, dial, draw, StdClock::new(rt))
+    add(workers, door, TcpDial::idle(), draw, StdClock::new(rt))
 }
 
-/// The workers of a plan, each with a door of its own to what was opened. None has a pass.
-pub fn workers_for<
+/// Puts the worker that delivers behind others. Its number is the one behind theirs.
+fn add_delivering<
     'a,
     T: Object,
-    R: Wait + time::Clock + Net<Listener = TcpListener, Stream = TcpStream>,
+    R: Threads + Wait + time::Clock + Eprint + Net<Listener = TcpListener, Stream = TcpStream>,
 >(
     rt: &'a R,
     alloc: Global,
-    plan: &Plan,
-    opening: &Opening<'a, R>,
-) -> Result<Vec<NetWorker<'a, T, R>>, AllocError>
-    ensures count { IfOk result (λ workers. vec_len workers ≡ plan.now.workers) }
+    opening: &Opening,
+    number: u32,
+    workers: &mut Vec<NetWorker<'a, T, R>>,
+) -> io::Result<()>
+    ensures count { OnOk result (vec_len workers.new ≡ vec_len workers.old + 1) }
+    ensures fresh { OnOk result (All (λ w. w.pass ≡ None) workers.old.items → All (λ w. w.pass ≡ None) workers.new.items) }
+{
+    let posts = Arc::try_clone(&opening.posts)?;
+    let exchanges = Arc::new(alloc, Exchanges::new(rt, alloc, posts)?)?;
+    let door = NetDoor::Delivering(Delivering::new(Arc::try_clone(&exchanges)?));
+    let draw = Draw::new(opening.draw_key, u64::from(number));
+    add(
+        workers,
+        door,
+        TcpDial::new(exchanges),
+        draw,
+        StdClock::new(rt),
+    )
+}
+
+/// The workers of a plan, each with a door of its own to what was opened, and behind them one that delivers. None has a
+/// pass.
+pub fn workers_for<
+    'a,
+    T: Object,
+    R: Threads + Wait + time::Clock + Eprint + Net<Listener = TcpListener, Stream = TcpStream>,
+>(rt: &'a R, alloc: Global, plan: &Plan, opening: &Opening) -> io::Result<Vec<NetWorker<'a, T, R>>>
+    ensures count { IfOk result (λ workers. vec_len workers ≡ plan.now.workers + 1) }
     ensures fresh { IfOk result (λ workers. All (λ w. w.pass ≡ None) workers.items) }
 {
-    let pauses = Arc::new(alloc, Pauses::new(alloc))?;
     let mut workers: Vec<NetWorker<'a, T, R>> = Vec::new(alloc);
     for number in 0..plan.workers {
-        if let Err(error) = add_by_number(rt, alloc, opening, &pauses, number, &mut workers) {
+        if let Err(error) = add_serving(rt, alloc, opening, number, &mut workers) {
             dismiss(workers);
             return Err(error);
         }
+    }
+    if let Err(error) = add_delivering(rt, alloc, opening, plan.workers, &mut workers) {
+        dismiss(workers);
+        return Err(error);
     }
     Ok(workers)
 }

@@ -7,6 +7,7 @@
 //! | `WORDS; DISK; WORKER; WORKER` | a run by the plan of these words, from its disk to its disk, with these workers |
 //! | `each source COUNT; PAGES; WORDS; DISK; WORKER` | a run for each number from 1 to COUNT, in which the call of this number fails at the source of the first connection; with `sink`, at its sink |
 //! | `talk DISK; LIMIT CLOCKS PIECE FAILS ROOM; BYTES` | a connection that is served alone, at a turnstile that ends at `LIMIT` calls, by a clock that gives the values `CLOCKS`, `,` between two |
+//! | `rest DISK; LIMIT CLOCKS PIECE FAILS ROOM; BYTES` | the same of a connection that rests where nothing is left of its bytes |
 //!
 //! The words are `serve --host HOST --disk DISK --admin ADMIN`, and other options behind them, which the program's own start
 //! reads. A disk is `- FUSE` without bytes, or `DIGITS*COUNT*DIGITS FUSE` with so many zeros between the two. After `FUSE`
@@ -41,7 +42,7 @@ mod workers;
 
 use crate::runs::run_told;
 use crate::series::series_told;
-use crate::talks::talk_told;
+use crate::talks::{rest_told, talk_told};
 use ocm_serve_rows::{Gates, add_name, cut, line_of, spelled};
 use std::alloc::Global;
 use std::io;
@@ -96,6 +97,7 @@ fn case_told<R: Threads + Wait + Sync>(rt: &R, alloc: Global, line: &str) -> Opt
     let told = match kind {
         "each" => series_told(rt, alloc, &gates, row),
         "talk" => line_of(talk_told(rt, alloc, &gates, row)),
+        "rest" => line_of(rest_told(rt, alloc, &gates, row)),
         _ => line_of(run_told(rt, alloc, &gates, line)),
     };
     drop(gates);

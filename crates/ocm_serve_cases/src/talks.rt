@@ -7,8 +7,10 @@ use crate::stores::{host, loaded};
 use ocm_base::MemClock;
 use ocm_dav::Config;
 use ocm_disk::{Disk, GateDisk};
-use ocm_serve_rows::{Gates, Manner, OPEN, clock_of, conn_of, cut, disk_of, ended_told};
-use ocm_server::{Draw, Ended, GateConn, serve_conn};
+use ocm_serve_rows::{
+    Gates, Manner, OPEN, clock_of, conn_of, cut, disk_of, ended_told, rest_conn_of,
+};
+use ocm_server::{Conn, Draw, Ended, serve_conn};
 use ocm_store::Store;
 use ocm_turn::Turnstile;
 use ocm_types::Secret;
@@ -37,6 +39,27 @@ pub fn talk_told<R: Wait>(rt: &R, alloc: Global, gates: &Gates, row: &str) -> Op
     }
 }
 
+/// The same of a connection that rests where nothing is left.
+pub fn rest_told<R: Wait>(rt: &R, alloc: Global, gates: &Gates, row: &str) -> Option<String> {
+    let (disk, row) = cut(row, "; ");
+    let (words, bytes) = cut(row, "; ");
+    let (limit, words) = cut(words, " ");
+    let (clocks, words) = cut(words, " ");
+    let limit = limit.parse().ok()?;
+    let conn = rest_conn_of(alloc, bytes, Manner::of(words)?);
+    match conn.zip(clock_of(alloc, clocks)) {
+        Some((mut conn, mut clock)) => {
+            let store = disk_of(alloc, gates, disk);
+            let ended = talked(rt, alloc, store, limit, &mut conn, &mut clock);
+            drop(clock);
+            let told = calls_told(alloc, ended, conn.sink.bytes().as_slice());
+            drop(conn);
+            told
+        }
+        None => None,
+    }
+}
+
 /// How many calls were made, how a connection ended, and what was written on it.
 fn calls_told(alloc: Global, ended: Option<(Ended, u64)>, written: &[u8]) -> Option<String> {
     let (ended, calls) = ended?;
@@ -55,12 +78,12 @@ fn config(alloc: Global) -> Option<Config> {
 }
 
 /// How the connection ends at the store of a disk, and how many calls were made.
-fn talked<R: Wait>(
+fn talked<R: Wait, C: Conn>(
     rt: &R,
     alloc: Global,
     disk: Option<GateDisk>,
     limit: u64,
-    conn: &mut GateConn,
+    conn: &mut C,
     clock: &mut MemClock,
 ) -> Option<(Ended, u64)> {
     match disk.zip(config(alloc)) {
@@ -76,13 +99,13 @@ fn talked<R: Wait>(
     }
 }
 
-fn talked_at<R: Wait>(
+fn talked_at<R: Wait, C: Conn>(
     rt: &R,
     alloc: Global,
     config: &Config,
     store: Store<GateDisk>,
     limit: u64,
-    conn: &mut GateConn,
+    conn: &mut C,
     clock: &mut MemClock,
 ) -> Option<(Ended, u64)>
     requires { (k : List Entry) × Stands ⟦<GateDisk as Disk>⟧ store k [] × IsLegalUnder (terms_of store) k [] }

@@ -3,12 +3,12 @@ use ocm_base::{List, MemClock};
 use ocm_disk::GateDisk;
 use ocm_pump::MemDial;
 use ocm_serve_rows::{CaseDoor, Gates, Manner, add_ends, ends_of};
+use ocm_serve_store::Followed;
 use ocm_server::{Draw, GateConn, Worker};
-use ocm_store::Store;
 use std::alloc::Global;
 
 /// A worker in memory.
-pub type Hand = Worker<Store<GateDisk>, CaseDoor<GateConn>, MemDial, MemClock>;
+pub type Hand = Worker<Followed<GateDisk>, CaseDoor<GateConn>, MemDial, MemClock>;
 
 /// Adds the workers of a row, `; ` between two. The first connection of each is of this manner.
 pub fn add_workers(

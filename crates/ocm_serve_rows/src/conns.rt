@@ -4,7 +4,7 @@ use crate::manners::Manner;
 use crate::texts::cut;
 use ocm_base::{Bytes, List, MemSink, MemSource};
 use ocm_case_rows::stream_of;
-use ocm_server::{GateConn, GateEvent, MemConn, Pair, gate_conn};
+use ocm_server::{GateConn, GateEvent, MemConn, Pair, RestConn, gate_conn, rest_conn};
 use std::alloc::Global;
 
 /// How a connection that waits for nothing is held.
@@ -23,6 +23,15 @@ pub fn conn_of(
     let (back, held) = cut(held, " ");
     let hold = bytes.len().saturating_sub(back.parse().unwrap_or(0));
     gated(gates, held, hold, joined(alloc, bytes, manner))
+}
+
+/// A connection that gives the bytes of a row, and rests where none is left.
+pub fn rest_conn_of(alloc: Global, row: &str, manner: Manner) -> Option<RestConn> {
+    let bytes = bytes_of(alloc, row)?;
+    match joined(alloc, bytes, manner) {
+        Some(conn) => Some(rest_conn(conn)),
+        None => None,
+    }
 }
 
 /// The connection with the gates of `WAIT EVENT SET`, held at a place of what it gives.

@@ -18,7 +18,7 @@ mod texts;
 
 pub use backs::{add_ends, ended_told, served_told};
 pub use clocks::clock_of;
-pub use conns::{OPEN, conn_of};
+pub use conns::{OPEN, conn_of, rest_conn_of};
 pub use disks::disk_of;
 pub use doors::CaseDoor;
 pub use ends::ends_of;

@@ -1,13 +1,20 @@
 -- A server, from its disk as it was handed in to its disk as it comes back.
-use Rattle.std.specs.Prelude.{◌≡◌, ℕ, List, [], Result, Ok, Err}
+use Rattle.std.specs.Prelude.{◌≡◌, ◌⊎◌, ℕ, List, [], ◌++◌, Result, Ok, Err}
 use Rattle.ocm_base.specs.Outside.{raised}
 use Rattle.ocm_dav.specs.declared.configs.Config.{Config}
+use Rattle.ocm_disk.specs.Disk.{LeavesOnly}
 use Rattle.ocm_disk.specs.declared.disk.Disk.{Ghosts}
 use Rattle.ocm_entry.specs.declared.entries.Entry.{Entry}
+use Rattle.ocm_journal.specs.Openings.{StaysAsItOpens}
 use Rattle.ocm_options.specs.declared.plans.Plan.{Plan}
+use Rattle.ocm_serve_store.specs.Following.{IsLegalSince, StandsSince, origin_of}
+use Rattle.ocm_serve_store.specs.declared.followed.Followed.{Followed}
+use Rattle.ocm_serve_store.specs.declared.followed.Origin.{Origin}
 use Rattle.ocm_server.specs.Objects.{Begins, Service}
 use Rattle.ocm_server.specs.declared.served.Served.{Served}
 use Rattle.ocm_server.specs.declared.served.Served.TheVariants.{Ended, DoorFault, DiskFault, NotJournal, OtherHost, NoMemory}
+use Rattle.ocm_store.specs.Acts.{StandsLegally}
+use Rattle.ocm_store.specs.Courses.{Course, LeavesAlong}
 use Rattle.ocm_store.specs.Opening.{IsOfArea, OpensTo, loading}
 use Rattle.ocm_store.specs.Stores.{IsLegalUnder, Stands, area_of, disk_of, host_of, terms_of}
 use Rattle.ocm_store.specs.declared.load_faults.LoadFault.{LoadFault}
@@ -67,26 +74,44 @@ IsCounted before now _ = Unit {0}
 abbrev pub IsOpenedTo : {D : Type 0} → Ghosts D → List ℕ → ℕ → D → List Entry → Type 0
 IsOpenedTo disk host area before k = disk.tells → (loading host area (disk.seen before) ≡ Ok k) × OpensTo host area k (disk.seen before)
 
+-- What a crash leaves at some moment of a run that loaded a store from a disk and made the calls h after the list k: what it might have left
+-- before, the same bytes or, where the disk was blank, what opens to no records, or what may follow at some place of the calls.
+abbrev pub LeavesInRun : {D : Type 0} (disk : Ghosts D) → List ℕ → ℕ → D → Terms → List Entry → List Entry → List ℕ → Type 0
+LeavesInRun disk host area before terms k h c = disk.may_leave before c ⊎ StaysAsItOpens host area (disk.seen before) c ⊎ LeavesAlong terms k [] h c
+
+-- Between two calls of a run there is a store that has made those before: since the moment of its disk a crash leaves what may follow at some
+-- place behind them, so that none of them is lost.
+abbrev pub KeepsDone : {D : Type 0} (disk : Ghosts D) → Store D disk → List Entry → List Entry → List Entry → Store D disk → Type 0
+KeepsDone {D} disk store k done later left = (mid : Store D disk) × Course disk store done mid × Course disk mid later left × StandsLegally disk mid k done
+    × (disk.tells → LeavesOnly disk.moment disk.left_since (disk_of mid) (disk_of left) (LeavesAlong (terms_of store) k done later))
+
 -- A store was served by so many calls, of which so many are those of its workers, and its disk came back. It stood for a base at first, of
--- which something is known, and at the end for that base and one history in which the calls of all workers stand; what is known of each
--- worker is told apart.
-pub record IsServed {D : Type 0} (disk : Ghosts D) (limit : ℕ) (IsBase : List Entry → Type 0) (store : Store D disk) (after : D) (calls own : ℕ) (IsEach : Gate → Known Terms → ℕ → List (List Call) → Type 0) : Type 0 where
+-- which something is known, and at the end for that base and one history in which the calls of all workers stand, and came to it by these
+-- calls; what is known of each worker is told apart.
+pub record IsServed {D : Type 0} (disk : Ghosts D) (limit : ℕ) (IsBase : List Entry → Type 0) (store : Store D disk) (after : D) (calls own : ℕ) (IsEach : Gate → Known (Origin D disk) → ℕ → List (List Call) → Type 0) : Type 0 where
   pub gate : Gate
-  pub first : Known Terms
-  pub left : Store D disk
-  pub begins : Begins limit (terms_of store) gate first
+  pub first : Known (Origin D disk)
+  pub begun : Followed D disk
+  pub left : Followed D disk
+  pub begins : Begins limit (origin_of begun) gate first
   pub is_base : IsBase first.base
   pub stands : Stands disk store first.base []
-  pub lawful : IsLegalUnder first.terms first.base []
-  pub service : Service (λ (s : Store D disk). terms_of s) (Stands disk) IsLegalUnder gate first left calls own (IsEach gate first)
-  pub back : after ≡ disk_of left
+  pub lawful : IsLegalUnder (terms_of store) first.base []
+  pub service : Service (λ (f : Followed D disk). origin_of f) (StandsSince disk) (IsLegalSince disk) gate first left calls own (IsEach gate first)
+  pub course : Course disk store service.history left.store
+  pub back : after ≡ disk_of left.store
 
 -- a server ran by a plan: it knew of itself what the plan says, and the store of its host was loaded from a disk, and served behind what
--- the disk opens to
-pub record Ran {D : Type 0} (disk : Ghosts D) (plan : Plan) (area limit : ℕ) (before after : D) (calls own : ℕ) (IsEach : Config → Gate → Known Terms → ℕ → List (List Call) → Type 0) : Type 0 where
+-- the disk opens to, by the calls of its workers alone
+pub record Ran {D : Type 0} (disk : Ghosts D) (plan : Plan) (area limit : ℕ) (before after : D) (calls own : ℕ) (IsEach : Config → Gate → Known (Origin D disk) → ℕ → List (List Call) → Type 0) : Type 0 where
   pub config : Config
   pub config_is : config ≡ config_of plan
   pub store : Store D disk
   pub host_is : host_of store ≡ plan.host
   pub area_is : disk.tells → IsOfArea plan.host area (area_of store) (disk.seen before)
   pub served : IsServed disk limit (IsOpenedTo disk plan.host area before) store after calls own (IsEach config)
+  pub all_own : own ≡ calls
+  -- a crash at any moment of the run
+  pub any_moment : disk.tells → LeavesOnly disk.moment disk.left_since before after (LeavesInRun disk plan.host area before (terms_of store) served.first.base served.service.history)
+  -- what was answered is not lost
+  pub kept : (done later : List Entry) → served.service.history ≡ later ++ done → KeepsDone disk store served.first.base done later served.left.store

@@ -1,6 +1,7 @@
 //! A store, served from its disk to its disk.
-ghost use Rattle.std.specs.Prelude.{◌≡◌, ◌<◌, ◌≤◌, ◌^◌, ℕ, [], List, length, slice_index_or, IfOk};
+ghost use Rattle.std.specs.Prelude.{◌≡◌, ◌⊎◌, ◌<◌, ◌≤◌, ◌^◌, ℕ, [], List, length, slice_index_or, IfOk};
 ghost use Rattle.ocm_limits.specs.Limits.{served_disk_bytes};
+ghost use Rattle.ocm_disk.specs.Disk.{LeavesOnly};
 ghost use Rattle.ocm_journal.specs.Openings.{StaysAsItOpens, new_area};
 ghost use Rattle.ocm_server.specs.Objects.{Shift, draw_at};
 ghost use Rattle.ocm_server.specs.Visits.{work};
@@ -10,6 +11,7 @@ ghost use Rattle.ocm_store.specs.Stores.{IsLegalUnder, Stands, disk_of, terms_of
 ghost use Rattle.ocm_entry.specs.declared.entries.Entry.{Entry};
 ghost use Rattle.ocm_serve_store.specs.Runs.{HasServed, IsCounted, IsDiskFault, IsLoaded, IsSaid, IsServed, IsUnserved, Ran, as_served, config_of};
 
+use crate::followed::Followed;
 use ocm_base::{Clock, NoMemory};
 use ocm_dav::Config;
 use ocm_disk::Disk;
@@ -32,7 +34,8 @@ const CALLS: u64 = 9_223_372_036_854_775_808;
 
 /// Loads the store of the plan's host from a disk and serves it by the workers, each in a thread of its own, until every
 /// door came to its end or failed. The disk comes back. The worker at each place draws by the stream of that number under
-/// the key. Where the disk is not loaded, no door was asked. It waits, and its return is not promised.
+/// the key, and makes rounds of delivery where its dial makes exchanges. There may be more workers than the plan names, and
+/// has to be one. Where the disk is not loaded, no door was asked. It waits, and its return is not promised.
 pub fn serve<
     D: Disk + Send,
     L: Door + Send,
@@ -43,7 +46,7 @@ pub fn serve<
     rt: &R,
     alloc: Global,
     plan: &Plan,
-    workers: &mut [Worker<Store<D>, L, N, K>],
+    workers: &mut [Worker<Followed<D>, L, N, K>],
     disk: D,
     draw_key: [u8; 32],
 ) -> (Served, D)
@@ -52,13 +55,14 @@ where
     requires some { 0 < length workers.old }
 
     // The calls of each worker stand in one history, in the order in which it made them. The history is legal behind what the disk
-    // opened to, and the disk that comes back is that of a store that stands for it.
+    // opened to, and the disk that comes back is that of a store that stands for it and came to it by these calls. A crash at any moment
+    // of the run leaves what may follow at some place of them, and loses nothing that was answered before.
     ensures served { (calls own : ℕ) → HasServed result.0 calls own → Ran ⟦<D as Disk>⟧ plan.now (new_area served_disk_bytes) (2 ^ 63) disk result.1 calls own
         (λ config gate first count all. (length all ≡ length workers.old) × ((i : ℕ) (d : _) → i < length workers.old →
         let a = slice_index_or workers.old i d in let b = slice_index_or workers.new i d in
         Shift L.Conn.sides config gate first (draw_at draw_key i)
-        (work (L.told a.door) (L.faults a.door) (N.exchanges a.dial) (N.faults a.dial) a.draw (K.given a.clock) a.pass a.end)
-        (work (L.told b.door) (L.faults b.door) (N.exchanges b.dial) (N.faults b.dial) b.draw (K.given b.clock) b.pass b.end)
+        (work (L.told a.door) (L.faults a.door) (N.exchanges a.dial) (N.faults a.dial) (N.delivers a.dial) a.draw (K.given a.clock) a.pass a.end)
+        (work (L.told b.door) (L.faults b.door) (N.exchanges b.dial) (N.faults b.dial) (N.delivers b.dial) b.draw (K.given b.clock) b.pass b.end)
         (slice_index_or all i []) count)) }
 
     // It ended where every door came to its end, and else the door of a worker failed.
@@ -70,6 +74,9 @@ where
     ensures counted { IsCounted (D.count disk) (D.count result.1) result.0 }
     ensures unfailing { ((n : ℕ) → D.passes disk n) → IsDiskFault result.0 → ⊥ }
     ensures unasked { IsUnserved result.0 → workers.new ≡ workers.old }
+
+    // A crash at any moment leaves what it might have left before, or what opens as the disk did.
+    ensures unserved { D.tells → IsUnserved result.0 → LeavesOnly D.moment D.left_since disk result.1 (λ c. D.may_leave disk c ⊎ StaysAsItOpens plan.now.host (new_area served_disk_bytes) (D.seen disk) c) }
 
     // Then the disk reads as before, or, where no journal was made on it before, it opens to nothing as before.
     ensures kept { D.tells → IsUnserved result.0 → StaysAsItOpens plan.now.host (new_area served_disk_bytes) (D.seen disk) (D.seen result.1) }
@@ -120,7 +127,7 @@ fn serve_store<
     rt: &R,
     alloc: Global,
     config: &Config,
-    workers: &mut [Worker<Store<D>, L, N, K>],
+    workers: &mut [Worker<Followed<D>, L, N, K>],
     store: Store<D>,
     draw_key: [u8; 32],
     before: &Snapshot<D>,
@@ -133,8 +140,8 @@ where
         (λ gate first count all. (length all ≡ length workers.old) × ((i : ℕ) (d : _) → i < length workers.old →
         let a = slice_index_or workers.old i d in let b = slice_index_or workers.new i d in
         Shift L.Conn.sides config.now gate first (draw_at draw_key i)
-        (work (L.told a.door) (L.faults a.door) (N.exchanges a.dial) (N.faults a.dial) a.draw (K.given a.clock) a.pass a.end)
-        (work (L.told b.door) (L.faults b.door) (N.exchanges b.dial) (N.faults b.dial) b.draw (K.given b.clock) b.pass b.end)
+        (work (L.told a.door) (L.faults a.door) (N.exchanges a.dial) (N.faults a.dial) (N.delivers a.dial) a.draw (K.given a.clock) a.pass a.end)
+        (work (L.told b.door) (L.faults b.door) (N.exchanges b.dial) (N.faults b.dial) (N.delivers b.dial) b.draw (K.given b.clock) b.pass b.end)
         (slice_index_or all i []) count)) }
     ensures ended { (calls own : ℕ) → result.0 ≡ Served.Ended calls own → (i : ℕ) (d : _) → i < length workers.new → (slice_index_or workers.new i d).end ≡ rounds.Ended }
     ensures fault { (calls own : ℕ) → result.0 ≡ Served.DoorFault calls own → (i : ℕ) × (i < length workers.new) × ((d : _) → (slice_index_or workers.new i d).end ≡ rounds.DoorFault) }
@@ -142,14 +149,20 @@ where
     ensures unasked { IsUnserved result.0 → workers.new ≡ workers.old }
     ensures kept { IsUnserved result.0 → result.1 ≡ disk_of store }
 {
-    match serve_object::<J, Store<D>, L, N, K, R>(
-        rt, alloc, config, workers, store, CALLS, draw_key,
+    match serve_object::<J, Followed<D>, L, N, K, R>(
+        rt,
+        alloc,
+        config,
+        workers,
+        Followed::new(store),
+        CALLS,
+        draw_key,
     ) {
         Ok(done) => {
             let served = ended(workers, done.calls, done.own);
-            (served, done.value.into_disk())
+            (served, done.value.into_store().into_disk())
         }
-        Err(store) => (Served::NoMemory, store.into_disk()),
+        Err(followed) => (Served::NoMemory, followed.into_store().into_disk()),
     }
 }
 

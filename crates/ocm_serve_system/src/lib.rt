@@ -3,10 +3,12 @@
 //! No line that it writes holds a key, a secret or anything of a message.
 #![tactic(auto)]
 
+mod admin_keys;
 mod notes;
 mod openings;
 mod told_disks;
 
+pub use admin_keys::read_admin;
 pub use notes::{Note, tell_end, tell_fault, tell_place};
 pub use openings::{Cause, OpenFault, Opening, StandIns};
 pub use told_disks::ToldDisk;

@@ -6,8 +6,7 @@ ghost use Rattle.ocm_serve_system.specs.Statuses.{IsStatus, fault_status};
 use crate::openings::{OpenFault, Opening};
 use ocm_server::{Served, served_status};
 use std::io::Eprint;
-use std::sync::Wait;
-use std::{fmt, str, time};
+use std::{fmt, str};
 
 /// What an administrator must know of how a server ended: one line, in order or not.
 #[derive(Clone, Copy)]
@@ -45,7 +44,7 @@ fn printable(bytes: &[u8]) -> Option<&str> {
 }
 
 /// Tells where a server listens.
-pub fn tell_place<'a, R: Wait + time::Clock + Eprint>(rt: &R, opening: &Opening<'a, R>) {
+pub fn tell_place<R: Eprint>(rt: &R, opening: &Opening) {
     let address = opening.entrance.address();
     let _ = eprintln!(rt; "ocmd: listening on {address}");
 }

@@ -1,20 +1,28 @@
 ghost use Rattle.std.specs.Prelude.{◌≡◌};
 ghost use Rattle.ocm_serve_system.specs.Statuses.{IsStatus, fault_status};
 
+use libc::types::rlimit;
 use ocm_disk::FileDisk;
 use ocm_options::Plan;
 use ocm_sockets::{Entrance, Limits};
+use ocm_waits::Bell;
 use std::alloc::Global;
 use std::fs::File;
 use std::io::{ErrorKind, Read};
 use std::net::{Net, TcpListener, TcpStream};
 use std::rt::Files;
-use std::sync::{Arc, Wait};
-use std::{fmt, io, time};
+use std::sync::Arc;
+use std::{fmt, io};
 use thiserror::Error;
 
-/// How many connections are open at a time. Beyond them the one that waits for longest is closed.
+/// How many connections are open at a time, where the limit on descriptors allows it.
 const MAX_OPEN: u64 = 8_192;
+
+/// How many descriptors are kept for files, for exchanges and for connections that were just accepted.
+const KEPT_DESCRIPTORS: u64 = 256;
+
+/// How many descriptors each worker needs for itself.
+const WORKER_DESCRIPTORS: u64 = 3;
 
 /// How long a connection rests between two messages, in milliseconds.
 const REST: u64 = 60_000;
@@ -56,33 +64,37 @@ fn nothing<R: Files<File = File>>(rt: &R) -> Option<File> {
 }
 
 /// What a server takes from the system before it begins.
-pub struct Opening<'a, R: Wait + time::Clock> {
-    /// The listening socket, and all connections.
-    pub entrance: Arc<Entrance<'a, R>, Global>,
+pub struct Opening {
+    /// The listening socket.
+    pub entrance: Arc<Entrance, Global>,
+    /// Is rung where something may be due to other servers, and ends once no connection will be served any more.
+    pub posts: Arc<Bell, Global>,
     /// The disk of the journal. No other server has it.
     pub disk: FileDisk,
     /// The key of all drawn values.
     pub draw_key: [u8; 32],
 }
 
-impl<R: Wait + time::Clock> Drop for Opening<'_, R> {
+impl Drop for Opening {
     fn drop(self) {
         let Opening {
             entrance: _,
+            posts: _,
             disk: _,
             draw_key: _,
         } = self;
     }
 }
 
-impl<'a, R: Wait + time::Clock> Opening<'a, R> {
-    /// The disk and the key. The socket stays with the doors that were given it.
+impl Opening {
+    /// The disk and the key. The socket and the bell stay with the doors that were given them.
     pub fn into_disk(self) -> (FileDisk, [u8; 32])
-        ensures disk { result.0 ≡ self.entry.disk }
-        ensures key { result.1 ≡ self.entry.draw_key }
+        ensures disk { result.0 ≡ self.disk }
+        ensures key { result.1 ≡ self.draw_key }
     {
         let Opening {
             entrance: _,
+            posts: _,
             disk,
             draw_key,
         } = self;
@@ -109,7 +121,7 @@ pub enum Cause {
 
 impl Cause {
     /// What an error says.
-    fn of(error: &io::Error) -> Cause {
+    pub(crate) fn of(error: &io::Error) -> Cause {
         match error.kind() {
             ErrorKind::NotFound => Cause::NotFound,
             ErrorKind::PermissionDenied => Cause::Denied,
@@ -140,6 +152,12 @@ pub enum OpenFault {
     /// The file of draws cannot be opened, or has fewer than 32 bytes.
     #[error("the key file cannot be read{0}")]
     KeyFile(Cause),
+    /// The file of the administrator's key cannot be opened or read.
+    #[error("the administrator's key file cannot be read{0}")]
+    AdminFile(Cause),
+    /// The file of the administrator's key holds none.
+    #[error("the administrator's key file holds no key: 1 to 255 bytes without a control character or ':', and at most one line end")]
+    NoAdminKey,
     /// The disk's file cannot be opened or made.
     #[error("the disk's file cannot be opened{0}")]
     Disk(Cause),
@@ -165,39 +183,90 @@ impl OpenFault {
             _ => 12,
         }
     }
+
+    /// Why connections cannot be listened for.
+    pub fn of_listening(error: &io::Error) -> OpenFault {
+        match error.kind() {
+            ErrorKind::OutOfMemory => OpenFault::NoMemory,
+            _ => OpenFault::Listen(Cause::of(error)),
+        }
+    }
 }
 
-impl<
-    'a,
-    R: Wait + time::Clock + Files<File = File> + Net<Listener = TcpListener, Stream = TcpStream>,
-> Opening<'a, R> {
+impl Opening {
     /// Reads the key, listens, and then opens the disk, as a plan says. Where the key or the address is at fault, no file
     /// is made.
-    pub fn new(rt: &'a R, alloc: Global, plan: &Plan) -> Result<Opening<'a, R>, OpenFault> {
+    pub fn new<R: Files<File = File> + Net<Listener = TcpListener, Stream = TcpStream>>(
+        rt: &R,
+        alloc: Global,
+        plan: &Plan,
+    ) -> Result<Opening, OpenFault> {
         let draw_key = read_key(rt, plan.key_file.as_str()).map_err(key_fault)?;
-        let limits = Limits {
-            connections: plan.connections.saturating_mul(u64::from(plan.workers)),
-            open: MAX_OPEN,
-            rest: REST,
-        };
-        let entrance = Entrance::new(rt, alloc, plan.listen.as_str(), limits).map_err(
-            listen_fault,
-        )?;
-        let Ok(entrance) = Arc::new(alloc, entrance) else {
-            return Err(OpenFault::NoMemory);
-        };
+        let (entrance, posts) = listen(rt, alloc, plan).map_err(listen_fault)?;
         match FileDisk::open(rt, plan.disk.as_str()) {
             Ok(disk) => Ok(Opening {
                 entrance,
+                posts,
                 disk,
                 draw_key,
             }),
             Err(error) => {
                 drop(entrance);
+                drop(posts);
                 Err(disk_fault(error))
             }
         }
     }
+}
+
+/// The listening socket of a plan, and the bell that is rung behind posts.
+fn listen<R: Files<File = File> + Net<Listener = TcpListener, Stream = TcpStream>>(
+    rt: &R,
+    alloc: Global,
+    plan: &Plan,
+) -> io::Result<(Arc<Entrance, Global>, Arc<Bell, Global>)> {
+    let posts = Arc::new(alloc, Bell::new(rt)?)?;
+    let limits = Limits {
+        workers: plan.workers,
+        connections: plan.connections,
+        open: open_limit(plan.workers),
+        rest: REST,
+        key: drawn_number(rt),
+    };
+    let entrance = Entrance::new(
+        rt,
+        alloc,
+        plan.listen.as_str(),
+        limits,
+        Arc::try_clone(&posts)?,
+    )?;
+    Ok((Arc::new(alloc, entrance)?, posts))
+}
+
+/// How many connections are open at a time: as many as the limit on descriptors leaves for them.
+fn open_limit(workers: u32) -> u64 {
+    let mut limit = rlimit {
+        rlim_cur: 0,
+        rlim_max: 0,
+    };
+    if libc::getrlimit(libc::RLIMIT_NOFILE, &mut limit) < 0 {
+        return MAX_OPEN;
+    }
+    let of_workers = WORKER_DESCRIPTORS.saturating_mul(u64::from(workers));
+    let others = KEPT_DESCRIPTORS.saturating_add(of_workers);
+    limit.rlim_cur.saturating_sub(others).min(MAX_OPEN)
+}
+
+/// A number that nobody outside knows, or 0 where the system has no file of them.
+fn drawn_number<R: Files<File = File>>(rt: &R) -> u64 {
+    let mut number = [0u8; 8];
+    match File::open(rt, "/dev/urandom") {
+        Ok(mut file) => {
+            let _ = file.read_exact(&mut number);
+        }
+        Err(_) => {}
+    }
+    u64::from_ne_bytes(number)
 }
 
 /// The first 32 bytes of a file.
@@ -224,8 +293,5 @@ fn disk_fault(error: io::Error) -> OpenFault {
 }
 
 fn listen_fault(error: io::Error) -> OpenFault {
-    match error.kind() {
-        ErrorKind::OutOfMemory => OpenFault::NoMemory,
-        _ => OpenFault::Listen(Cause::of(&error)),
-    }
+    OpenFault::of_listening(&error)
 }

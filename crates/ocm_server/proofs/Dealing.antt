@@ -1,11 +1,12 @@
 -- Workers changed one after another.
-use Rattle.std.proofs.Common.{◌≡◌, ℕ, ◌+◌, ◌<◌, ◌≤◌, ◌⊎◌, List, ◌∷◌, length, get_or, set, drop, map, add-one, inl, inr, refl, sym, ap, subst, ◌∙◌, arith}
+use Rattle.std.proofs.Common.{◌≡◌, ℕ, ◌+◌, ◌-◌, ◌<◌, ◌≤◌, ◌⊎◌, List, ◌∷◌, length, get_or, set, drop, map, add-one, inl, inr, refl, sym, ap, subst, ◌∙◌, arith}
 use Rattle.std.proofs.lemmas.List.{get_or_default, get_or-set_same, get_or-set_other, drop_all}
 use Rattle.std.proofs.Math.Nat.{le-max_left, le-max_right}
 use Rattle.std.proofs.Math.Seq.{drop-cons}
 use Rattle.std.specs.Prelude.{max}
 use Rattle.ocm_turn.specs.declared.view.Call.{Call}
 use Rattle.ocm_turn.specs.Calls.{merged}
+use Rattle.ocm_turn.specs.Passes.{Known}
 use Rattle.ocm_server.specs.Objects.{gathered}
 
 below_or_at : (i k : ℕ) → i < k + 1 → (i < k) ⊎ (i ≡ k)
@@ -56,3 +57,7 @@ module _ {W : Type 0} where
 
   pub gathered_all : (mine : W → List Call) (old : List W) (k : ℕ) (acc : List Call) → length old ≤ k → gathered acc (map mine (drop k old)) ≡ acc
   gathered_all mine old k acc h = ap (λ (l : List W). gathered acc (map mine l)) (drop_all k old h)
+
+-- a pass that gave parts away, and one more, is the same but for its parts
+pub fewer_parts : {Terms : Type 0} (first old new : Known Terms) → old ≡ record first { parts = old.parts } → new ≡ record old { parts = old.parts - 1 } → new ≡ record first { parts = new.parts }
+fewer_parts {Terms} first old new before now = let fewer = sym (ap (λ (p : Known Terms). p.parts) now) in now ∙ λ i. record (before i) { parts = fewer i }

@@ -9,9 +9,10 @@ use Rattle.ocm_turn.specs.declared.view.Call.{Call}
 use Rattle.ocm_turn.specs.Calls.{StandIn, InOrder}
 use Rattle.ocm_turn.specs.Passes.{Gate, Known, SameGround}
 use Rattle.ocm_connections.specs.Sides.{Sides}
-use Rattle.ocm_server.specs.Objects.{beginner, begun, drawn_of, gathered, mine_of, Service, Shift}
+use Rattle.ocm_server.specs.Objects.{begun, drawn_of, gathered, mine_of, parts_of, Service, Shift}
 use Rattle.ocm_server.specs.Visits.{Work, Worked}
 use Rattle.ocm_server.proofs.Sharing.{shares}
+use Rattle.ocm_turn.proofs.AllCalls.{all_are_the_history}
 
 orders_mapped : {W : Type 0} (mine : W → List Call) (workers : List W) → AllByRecursion (λ w. InOrder (mine w)) workers → AllByRecursion InOrder (map mine workers)
 orders_mapped mine [] h = tt
@@ -24,38 +25,42 @@ orders mine workers each = orders_mapped mine workers (recursion_from_All (λ w.
 pub order_of : {C Terms : Type 0} (sides : C → Sides) (config : Config) (gate : Gate) (old new : Work C Terms) → Worked sides config gate old new → InOrder (mine_of new.pass)
 order_of {C} {Terms} sides config gate old new worked = subst (λ (p : Option (Known Terms)). InOrder (mine_of p)) (sym worked.has) worked.order
 
+-- a worker has as many parts as it had
+pub same_parts : {C Terms : Type 0} (sides : C → Sides) (config : Config) (gate : Gate) (old new : Work C Terms) → Worked sides config gate old new → parts_of new.pass ≡ parts_of old.pass
+same_parts sides config gate old new worked = ap parts_of worked.has ∙ (worked.moved.1.parts ∙ sym (ap parts_of worked.had))
+
 module _ {T Terms : Type 0} (terms_of : T → Terms) (stands : T → List Entry → List Entry → Type 0) (legal : Terms → List Entry → List Entry → Type 0) where
   pub service : (gate : Gate) (first last : Known Terms) (left : T) (calls own : ℕ) (IsEach : ℕ → List (List Call) → Type 0) (all : List (List Call)) (history : List Entry)
       → SameGround first last → first.mine ≡ [] → last.mine ≡ gathered first.mine all → IsEach calls all
       → stands left last.base history → legal last.terms last.base history → terms_of left ≡ last.terms → calls ≡ length history
-      → StandIn history last.mine → AllByRecursion InOrder all → InOrder last.mine → own ≡ length last.mine
+      → StandIn history last.mine → AllByRecursion InOrder all → InOrder last.mine → own ≡ length last.mine → length last.mine ≡ calls
       → Service terms_of stands legal gate first left calls own IsEach
-  service gate first last left calls own IsEach all history ground none mine each st law same count stand orders order own_is =
+  service gate first last left calls own IsEach all history ground none mine each st law same count stand orders order own_is whole =
       let e : last.mine ≡ gathered [] all = mine ∙ ap (λ (m : List Call). gathered m all) none in
+      let in_history : StandIn history (gathered [] all) = subst (λ (m : List Call). StandIn history m) e stand in
+      let in_order : InOrder (gathered [] all) = subst (λ (m : List Call). InOrder m) e order in
       record {
         history = history;
         all = all;
         each = each;
-        shares = shares history all own (subst (λ (m : List Call). StandIn history m) e stand) orders (subst (λ (m : List Call). InOrder m) e order) (own_is ∙ ap length e);
+        shares = shares history all own in_history orders in_order (own_is ∙ ap length e);
         stands_for = subst (λ (b : List Entry). stands left b history) ground.base st;
         lawful = subst (λ (z : Terms × List Entry). legal z.0 z.1 history) (λ i. (ground.terms i, ground.base i)) law;
         same_terms = same ∙ ground.terms;
         counted = count;
+        all_own = own_is ∙ whole;
+        whole = all_are_the_history history (gathered [] all) in_history in_order (sym (ap length e) ∙ (whole ∙ count));
       }
 
-beginner_same : {Terms : Type 0} (first : Known Terms) → first.mine ≡ [] → beginner first ≡ first
-beginner_same first none = λ i. record { turnstile = first.turnstile; base = first.base; terms = first.terms; seen = first.seen; mine = sym none i; drawn = first.drawn }
-
-module _ {C Terms : Type 0} (sides : C → Sides) (config : Config) (gate : Gate) (first : Known Terms) (draw : ChaCha) (none : first.mine ≡ []) where
-  pub shift : (old dealt served left : Work C Terms) (calls : List Call) (count : ℕ) → dealt ≡ begun old draw (beginner first) → Worked sides config gate dealt served
+module _ {C Terms : Type 0} (sides : C → Sides) (config : Config) (gate : Gate) (first : Known Terms) (draw : ChaCha) where
+  pub shift : (old dealt served left : Work C Terms) (calls : List Call) (count : ℕ) → dealt ≡ begun old draw first → Worked sides config gate dealt served
       → left ≡ record served { pass = None } → calls ≡ mine_of served.pass → drawn_of served.pass ≤ count → Shift sides config gate first draw old left calls count
   shift old dealt served left calls count dealt_is worked left_is calls_is within =
-      let begins : dealt ≡ begun old draw first = dealt_is ∙ ap (λ (f : Known Terms). begun old draw f) (beginner_same first none) in
       let ends : served ≡ record left { pass = Some worked.after } =
       (λ i. record served { pass = worked.has i }) ∙ ap (λ (w : Work C Terms). record w { pass = Some worked.after }) (sym left_is) in
       record {
         last = worked.after;
-        worked = subst (λ (z : Work C Terms × Work C Terms). Worked sides config gate z.0 z.1) (λ i. (begins i, ends i)) worked;
+        worked = subst (λ (z : Work C Terms × Work C Terms). Worked sides config gate z.0 z.1) (λ i. (dealt_is i, ends i)) worked;
         calls_are = calls_is ∙ ap mine_of worked.has;
         within = subst (λ (p : Option (Known Terms)). drawn_of p ≤ count) worked.has within;
         no_pass = ap (λ (w : Work C Terms). w.pass) left_is;

@@ -4,15 +4,15 @@ use Rattle.std.specs.List.{AllByRecursion}
 use Rattle.rand_chacha.specs.ChaCha.{ChaCha, key_of}
 use Rattle.ocm_entry.specs.declared.entries.Entry.{Entry}
 use Rattle.ocm_turn.specs.declared.view.Call.{Call}
-use Rattle.ocm_turn.specs.Calls.{StandIn, InOrder, Disjoint, merged}
+use Rattle.ocm_turn.specs.Calls.{StandIn, InOrder, Disjoint, entries, merged}
 use Rattle.ocm_turn.specs.Passes.{Gate, Known, BelongsTo}
 use Rattle.ocm_dav.specs.declared.configs.Config.{Config}
 use Rattle.ocm_connections.specs.Sides.{Sides}
 use Rattle.ocm_server.specs.Visits.{Work, Worked}
 
--- a pass that was split off: it has seen what the other has seen, and made no call
+-- a pass that was split off: it has seen what the other has seen, and made no call, and has one of its parts
 abbrev pub beginner : {Terms : Type 0} → Known Terms → Known Terms
-beginner pass = record { turnstile = pass.turnstile; base = pass.base; terms = pass.terms; seen = pass.seen; mine = []; drawn = pass.drawn }
+beginner pass = record { turnstile = pass.turnstile; base = pass.base; terms = pass.terms; seen = pass.seen; mine = []; drawn = pass.drawn; parts = 1 }
 
 -- the stream of drawn values of the worker at a place
 abbrev pub draw_at : List ℕ → ℕ → ChaCha
@@ -27,6 +27,11 @@ mine_of None = []
 abbrev pub drawn_of : {Terms : Type 0} → Option (Known Terms) → ℕ
 drawn_of (Some pass) = pass.drawn
 drawn_of None = 0
+
+-- the parts of a pass, where there is one
+abbrev pub parts_of : {Terms : Type 0} → Option (Known Terms) → ℕ
+parts_of (Some pass) = pass.parts
+parts_of None = 0
 
 -- calls joined with those of others, one after another
 abbrev pub gathered : List Call → List (List Call) → List Call
@@ -50,9 +55,9 @@ pub record Shares (history : List Entry) (all : List (List Call)) (own : ℕ) : 
   pub apart : AllApart all
   pub counted : own ≡ number_of all
 
--- a worker before it begins: with its stream of drawn values and a pass
+-- a worker before it begins: with its stream of drawn values, and a pass that was split off
 abbrev pub begun : {C Terms : Type 0} → Work C Terms → ChaCha → Known Terms → Work C Terms
-begun w draw pass = record w { draw = draw; pass = Some pass }
+begun w draw pass = record w { draw = draw; pass = Some (beginner pass) }
 
 -- one worker: it began with its stream of drawn values and a pass that knows no call, and served its door; these are its calls, and its pass is gone.
 -- No ticket word that it found is above the number of all calls: it was refused a call only where so many were made as the turnstile allows.
@@ -72,8 +77,8 @@ pub record Begins {Terms : Type 0} (limit : ℕ) (terms : Terms) (gate : Gate) (
   pub uncalled : first.mine ≡ []
   pub undrawn : first.drawn ≡ 0
 
--- A value was served: the turnstile and its first pass, the one history, and the calls of each worker; what is known of each worker is told apart, by
--- the number of all calls and the calls of each.
+-- A value was served: the turnstile and its first pass, the one history, and the calls of each worker, which are the whole of it: nobody else made a call.
+-- What is known of each worker is told apart, by the number of all calls and the calls of each.
 pub record Service {T Terms : Type 0} (terms_of : T → Terms) (stands : T → List Entry → List Entry → Type 0) (legal : Terms → List Entry → List Entry → Type 0) (gate : Gate) (first : Known Terms) (left : T) (calls own : ℕ) (IsEach : ℕ → List (List Call) → Type 0) : Type 0 where
   pub history : List Entry
   pub all : List (List Call)
@@ -83,3 +88,5 @@ pub record Service {T Terms : Type 0} (terms_of : T → Terms) (stands : T → L
   pub lawful : legal first.terms first.base history
   pub same_terms : terms_of left ≡ first.terms
   pub counted : calls ≡ length history
+  pub all_own : own ≡ calls
+  pub whole : entries (gathered [] all) ≡ history

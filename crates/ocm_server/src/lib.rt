@@ -13,8 +13,8 @@ pub use doors::Door;
 pub use memory_doors::MemDoor;
 pub use objects::{Finished, serve_object};
 pub use ocm_connections::{
-    Conn, Draw, Ended, GateConn, GateEvent, MemConn, Node, Pair, PureConn, gate_conn, respond,
-    serve_conn,
+    Conn, Draw, Ended, GateConn, GateEvent, MemConn, Node, Pair, PureConn, RestConn, gate_conn,
+    respond, rest_conn, serve_conn,
 };
 pub use ocm_rounds::{Pumped, RoundEnd, pump_round};
 pub use returned::Back;

@@ -2,7 +2,7 @@
 
 ghost use Rattle.std.specs.Prelude.{◌≡◌, ◌≤◌, ◌<◌, ◌^◌, ℕ, List, [], length, slice_index_or, IfOk, IfErr};
 ghost use Rattle.ocm_entry.specs.declared.entries.Entry.{Entry};
-ghost use Rattle.ocm_turn.specs.Passes.{Gate, Known, BelongsTo};
+ghost use Rattle.ocm_turn.specs.Passes.{Gate, Known, BelongsTo, all_parts};
 ghost use Rattle.ocm_server.specs.Objects.{Begins, Service, Shift, draw_at};
 ghost use Rattle.ocm_server.specs.Visits.{work};
 
@@ -26,7 +26,7 @@ pub struct Finished<T> {
     pub value: T,
     /// How many calls it answered.
     pub calls: u64,
-    /// How many of these the workers made.
+    /// How many of these the workers made: all of them.
     pub own: u64,
     /// How the workers ended.
     pub rounds: Rounds,
@@ -53,13 +53,14 @@ where
     L::Conn: Send,
     requires own { BelongsTo node pass }
     requires uncalled { pass.mine ≡ [] }
+    requires whole { pass.parts ≡ all_parts }
     requires some { 0 < length workers.old }
     ensures { Service T.terms T.stands T.legal node pass result.value result.calls result.own
         (λ count all. (length all ≡ length workers.old) × ((i : ℕ) (d : Worker T L N K T.Terms L.Conn) → i < length workers.old →
         let a = slice_index_or workers.old i d in let b = slice_index_or workers.new i d in
         Shift L.Conn.sides config.now node pass (draw_at draw_key i)
-        (work (L.told a.door) (L.faults a.door) (N.exchanges a.dial) (N.faults a.dial) a.draw (K.given a.clock) a.pass a.end)
-        (work (L.told b.door) (L.faults b.door) (N.exchanges b.dial) (N.faults b.dial) b.draw (K.given b.clock) b.pass b.end)
+        (work (L.told a.door) (L.faults a.door) (N.exchanges a.dial) (N.faults a.dial) (N.delivers a.dial) a.draw (K.given a.clock) a.pass a.end)
+        (work (L.told b.door) (L.faults b.door) (N.exchanges b.dial) (N.faults b.dial) (N.delivers b.dial) b.draw (K.given b.clock) b.pass b.end)
         (slice_index_or all i []) count)) }
 {
     deal(&node, &mut pass, workers, draw_key);
@@ -107,8 +108,8 @@ where
         (λ count all. (length all ≡ length workers.old) × ((i : ℕ) (d : Worker T L N K T.Terms L.Conn) → i < length workers.old →
         let a = slice_index_or workers.old i d in let b = slice_index_or workers.new i d in
         Shift L.Conn.sides config.now gate first (draw_at draw_key i)
-        (work (L.told a.door) (L.faults a.door) (N.exchanges a.dial) (N.faults a.dial) a.draw (K.given a.clock) a.pass a.end)
-        (work (L.told b.door) (L.faults b.door) (N.exchanges b.dial) (N.faults b.dial) b.draw (K.given b.clock) b.pass b.end)
+        (work (L.told a.door) (L.faults a.door) (N.exchanges a.dial) (N.faults a.dial) (N.delivers a.dial) a.draw (K.given a.clock) a.pass a.end)
+        (work (L.told b.door) (L.faults b.door) (N.exchanges b.dial) (N.faults b.dial) (N.delivers b.dial) b.draw (K.given b.clock) b.pass b.end)
         (slice_index_or all i []) count))) }
     ensures same { IfErr result (λ v. v ≡ value) }
     ensures unasked { IfErr result (λ _. workers.new ≡ workers.old) }

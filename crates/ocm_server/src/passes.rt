@@ -1,9 +1,9 @@
 //! Passes handed out to workers, and gathered from them.
 
-ghost use Rattle.std.specs.Prelude.{◌≡◌, ◌<◌, ◌≤◌, ℕ, None, Some, All, map, max, length, slice_index_or};
+ghost use Rattle.std.specs.Prelude.{◌≡◌, ◌<◌, ◌≤◌, ◌+◌, ◌-◌, ℕ, None, Some, All, map, max, length, slice_index_or};
 ghost use Rattle.ocm_turn.specs.Calls.{merged};
-ghost use Rattle.ocm_turn.specs.Passes.{BelongsTo, SameGround};
-ghost use Rattle.ocm_server.specs.Objects.{beginner, draw_at, drawn_of, gathered, mine_of};
+ghost use Rattle.ocm_turn.specs.Passes.{BelongsTo, SameGround, all_parts};
+ghost use Rattle.ocm_server.specs.Objects.{beginner, draw_at, drawn_of, gathered, mine_of, parts_of};
 ghost use Rattle.ocm_server.specs.Visits.{Owns};
 
 use crate::doors::Door;
@@ -22,7 +22,8 @@ fn deal_one<T: Object, L: Door, N: Dial, K: Clock>(
     draw: Draw,
 )
     requires own { BelongsTo node.now pass.old }
-    ensures same { pass.new ≡ pass.old }
+    requires some { 1 < pass.old.parts }
+    ensures same { pass.new ≡ record pass.old { parts = pass.old.parts - 1 } }
     ensures worker { worker.new ≡ record worker.old { draw = draw; pass = Some (beginner pass.old) } }
 {
     let split = node.split(pass).unwrap();
@@ -30,7 +31,7 @@ fn deal_one<T: Object, L: Door, N: Dial, K: Clock>(
     worker.pass = Some(split);
 }
 
-/// Gives each worker a pass that is split off, and a stream of drawn values of its own, by its place.
+/// Gives each worker a pass that is split off the first, and a stream of drawn values of its own, by its place.
 pub(crate) fn deal<T: Object, L: Door, N: Dial, K: Clock>(
     node: &Node<T>,
     pass: &mut Pass<T>,
@@ -38,7 +39,9 @@ pub(crate) fn deal<T: Object, L: Door, N: Dial, K: Clock>(
     draw_key: [u8; 32],
 )
     requires own { BelongsTo node.now pass.old }
-    ensures same { pass.new ≡ pass.old }
+    requires whole { pass.old.parts ≡ all_parts }
+    ensures same { pass.new ≡ record pass.old { parts = pass.new.parts } }
+    ensures parts { pass.new.parts + length workers.old ≡ all_parts }
     ensures dealt { (i : ℕ) (d : Worker T L N K T.Terms L.Conn) → i < length workers.old →
         slice_index_or workers.new i d ≡ record (slice_index_or workers.old i d) { draw = draw_at draw_key i; pass = Some (beginner pass.old) } }
 {
@@ -59,6 +62,7 @@ fn gather_one<T: Object, L: Door, N: Dial, K: Clock>(
     ensures ground { SameGround pass.old pass.new }
     ensures mine { pass.new.mine ≡ merged pass.old.mine (mine_of worker.old.pass) }
     ensures drawn { pass.new.drawn ≡ max pass.old.drawn (drawn_of worker.old.pass) }
+    ensures parts { pass.new.parts ≡ pass.old.parts + parts_of worker.old.pass }
     ensures worker { worker.new ≡ record worker.old { pass = None } }
 {
     let taken = worker.pass.take();
@@ -74,10 +78,12 @@ pub(crate) fn gather<T: Object, L: Door, N: Dial, K: Clock>(
 )
     requires own { BelongsTo node.now pass.old }
     requires workers { All (λ w. Owns node.now w.pass) workers.old }
+    requires one { All (λ w. parts_of w.pass ≡ 1) workers.old }
     ensures own { BelongsTo node.now pass.new }
     ensures ground { SameGround pass.old pass.new }
     ensures mine { pass.new.mine ≡ gathered pass.old.mine (map (λ w. mine_of w.pass) workers.old) }
     ensures drawn { (i : ℕ) (d : Worker T L N K T.Terms L.Conn) → i < length workers.old → drawn_of (slice_index_or workers.old i d).pass ≤ pass.new.drawn }
+    ensures parts { pass.new.parts ≡ pass.old.parts + length workers.old }
     ensures taken { (i : ℕ) (d : Worker T L N K T.Terms L.Conn) → i < length workers.old →
         slice_index_or workers.new i d ≡ record (slice_index_or workers.old i d) { pass = None } }
 {

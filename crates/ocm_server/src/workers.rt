@@ -3,8 +3,9 @@
 ghost use Rattle.std.specs.Prelude.{◌≡◌, ◌≤◌, ◌<◌, ℕ, None, All, length, slice_index_or};
 ghost use Rattle.ocm_base.specs.Outside.{Rose};
 ghost use Rattle.ocm_turn.specs.Passes.{BelongsTo};
+ghost use Rattle.ocm_rounds.specs.Rounds.{hold};
 ghost use Rattle.ocm_server.specs.Doors.{IsOut};
-ghost use Rattle.ocm_server.specs.Visits.{Comes, Serves, Owns, Worked, ends, desk, work};
+ghost use Rattle.ocm_server.specs.Visits.{Behind, Comes, Serves, Owns, Worked, ends, desk, work};
 
 use crate::doors::Door;
 use ocm_base::Clock;
@@ -12,7 +13,7 @@ use ocm_connections::{Conn, Draw, Node, serve_conn};
 use ocm_dav::Config;
 use ocm_entry::Object;
 use ocm_pump::Dial;
-use ocm_rounds::pump_round;
+use ocm_rounds::{Pumped, pump_round};
 use ocm_turn::Pass;
 use std::alloc::Global;
 use std::sync::Wait;
@@ -27,7 +28,28 @@ pub enum Rounds {
     DoorFault,
 }
 
-/// Serves one connection, hands it back, and makes one round of delivery.
+/// Makes a round of delivery where the worker's dial makes exchanges, and else no call.
+fn round_behind<T: Object, N: Dial, R: Wait>(
+    rt: &R,
+    alloc: Global,
+    node: &Node<T>,
+    pass: &mut Pass<T>,
+    dial: &mut N,
+) -> Option<Pumped>
+    requires own { BelongsTo node.now pass.old }
+    ensures behind { Behind node.now.limit (N.delivers dial.old) result (hold pass.old (N.exchanges dial.old)) (hold pass.new (N.exchanges dial.new)) }
+    ensures own { BelongsTo node.now pass.new }
+    ensures never_falls { N.faults dial.old ≤ N.faults dial.new }
+    ensures kind { N.delivers dial.new ≡ N.delivers dial.old }
+{
+    if dial.delivers() {
+        Some(pump_round(rt, alloc, node, pass, dial))
+    } else {
+        None
+    }
+}
+
+/// Serves one connection, hands it back, and makes one round of delivery where the worker's dial makes exchanges.
 fn serve_visit<T: Object, L: Door, N: Dial, K: Clock, R: Wait>(
     rt: &R,
     alloc: Global,
@@ -42,15 +64,16 @@ fn serve_visit<T: Object, L: Door, N: Dial, K: Clock, R: Wait>(
 )
     requires own { BelongsTo node.now pass.old }
     requires out { IsOut (L.told door.old) }
-    ensures comes { Comes L.Conn.sides config.now node.now.limit conn (L.told door.old) (L.told door.new)
+    ensures comes { Comes L.Conn.sides config.now node.now.limit (N.delivers dial.old) conn (L.told door.old) (L.told door.new)
         (desk draw.old (K.given clock.old) (N.exchanges dial.old) pass.old) (desk draw.new (K.given clock.new) (N.exchanges dial.new) pass.new) }
     ensures own { BelongsTo node.now pass.new }
     ensures faults { L.faults door.new ≡ L.faults door.old }
     ensures dial_never_falls { N.faults dial.old ≤ N.faults dial.new }
+    ensures kind { N.delivers dial.new ≡ N.delivers dial.old }
 {
     let ended = serve_conn(rt, alloc, config, node, pass, &mut conn, draw, clock);
     door.done(conn, ended);
-    let _pumped = pump_round(rt, alloc, node, pass, dial);
+    let _pumped = round_behind(rt, alloc, node, pass, dial);
 }
 
 /// Serves the connections of a door one after another.
@@ -66,13 +89,14 @@ fn serve_door<T: Object, L: Door, N: Dial, K: Clock, R: Wait>(
     clock: &mut K,
 ) -> Rounds
     requires own { BelongsTo node.now pass.old }
-    ensures serves { Serves L.Conn.sides config.now node.now.limit (L.told door.old) (L.told door.new) (ends result)
+    ensures serves { Serves L.Conn.sides config.now node.now.limit (N.delivers dial.old) (L.told door.old) (L.told door.new) (ends result)
         (desk draw.old (K.given clock.old) (N.exchanges dial.old) pass.old) (desk draw.new (K.given clock.new) (N.exchanges dial.new) pass.new) }
     ensures own { BelongsTo node.now pass.new }
     ensures fault { result ≡ Rounds.DoorFault → Rose (L.faults door.old) (L.faults door.new) }
     ensures unfailed { result ≡ Rounds.Ended → L.faults door.new ≡ L.faults door.old }
     ensures never_falls { L.faults door.old ≤ L.faults door.new }
     ensures dial_never_falls { N.faults dial.old ≤ N.faults dial.new }
+    ensures kind { N.delivers dial.new ≡ N.delivers dial.old }
 {
     for _ in rt.forever() {
         match door.next() {
@@ -127,7 +151,7 @@ impl<T: Object, L: Door, N: Dial, K: Clock> Worker<T, L, N, K> {
 }
 
 /// Serves the connections of the worker's door one after another: each to its ending, whatever that is, and then makes a
-/// round of delivery. It ends where the door comes to its end or fails. It waits for its turns, and its return is not
+/// round of delivery where the worker's dial makes exchanges. It ends where the door comes to its end or fails. It waits for its turns, and its return is not
 /// promised.
 pub fn serve_worker<T: Object, L: Door, N: Dial, K: Clock, R: Wait>(
     rt: &R,
@@ -138,8 +162,8 @@ pub fn serve_worker<T: Object, L: Door, N: Dial, K: Clock, R: Wait>(
 )
     requires own { Owns node.now worker.old.pass }
     ensures worked { Worked L.Conn.sides config.now node.now
-        (work (L.told worker.old.door) (L.faults worker.old.door) (N.exchanges worker.old.dial) (N.faults worker.old.dial) worker.old.draw (K.given worker.old.clock) worker.old.pass worker.old.end)
-        (work (L.told worker.new.door) (L.faults worker.new.door) (N.exchanges worker.new.dial) (N.faults worker.new.dial) worker.new.draw (K.given worker.new.clock) worker.new.pass worker.new.end) }
+        (work (L.told worker.old.door) (L.faults worker.old.door) (N.exchanges worker.old.dial) (N.faults worker.old.dial) (N.delivers worker.old.dial) worker.old.draw (K.given worker.old.clock) worker.old.pass worker.old.end)
+        (work (L.told worker.new.door) (L.faults worker.new.door) (N.exchanges worker.new.dial) (N.faults worker.new.dial) (N.delivers worker.new.dial) worker.new.draw (K.given worker.new.clock) worker.new.pass worker.new.end) }
 {
     let taken = worker.pass.take();
     let mut pass = taken.unwrap();
@@ -195,8 +219,8 @@ where
     ensures each { (i : ℕ) (d : Worker T L N K T.Terms L.Conn) → i < length workers.old →
         let a = slice_index_or workers.old i d in let b = slice_index_or workers.new i d in
         Worked L.Conn.sides config.now node.now
-        (work (L.told a.door) (L.faults a.door) (N.exchanges a.dial) (N.faults a.dial) a.draw (K.given a.clock) a.pass a.end)
-        (work (L.told b.door) (L.faults b.door) (N.exchanges b.dial) (N.faults b.dial) b.draw (K.given b.clock) b.pass b.end) }
+        (work (L.told a.door) (L.faults a.door) (N.exchanges a.dial) (N.faults a.dial) (N.delivers a.dial) a.draw (K.given a.clock) a.pass a.end)
+        (work (L.told b.door) (L.faults b.door) (N.exchanges b.dial) (N.faults b.dial) (N.delivers b.dial) b.draw (K.given b.clock) b.pass b.end) }
     ensures ended { result ≡ Rounds.Ended → (i : ℕ) (d : Worker T L N K T.Terms L.Conn) → i < length workers.new → (slice_index_or workers.new i d).end ≡ Rounds.Ended }
     ensures fault { result ≡ Rounds.DoorFault → (i : ℕ) × (i < length workers.new) × ((d : Worker T L N K T.Terms L.Conn) → (slice_index_or workers.new i d).end ≡ Rounds.DoorFault) }
 {

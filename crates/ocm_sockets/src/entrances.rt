@@ -1,101 +1,93 @@
-//! The listening socket, and the connections that no worker has.
-use crate::lines::{LINGER, Line, Step};
-use crate::waits::{WAKING, Waits, Wanted, last_error, millis};
-use std::alloc::{AllocError, Global};
+//! The listening socket, and how what it accepts is shared among workers.
+use crate::seats::{Accepted, Seat};
+use libc::net::EPOLLIN;
+use libc::{EMFILE, ENOMEM};
+use ocm_waits::{Bell, Set};
+use std::alloc::Global;
+use std::collections::hash_map::DefaultHasher;
+use std::hash::Hasher;
+use std::io;
 use std::io::ErrorKind;
-use std::net::{Net, SocketAddr, TcpListener, TcpStream};
+use std::net::{IpAddr, Net, SocketAddr, TcpListener, TcpStream};
 use std::os::fd::{AsRawFd, OwnedFd};
 use std::sync::atomic::{AtomicU64, Ordering};
 use std::sync::{Arc, Mutex, Wait};
 use std::time::Duration;
-use std::{io, time};
 
-/// How many connections are accepted at a time.
-const ACCEPTED: u32 = 64;
-
-/// How long it is between two sweeps, in milliseconds.
-const SWEEP: u64 = 500;
-
-/// How many descriptors the table has room for.
-const PLACES: usize = 16_384;
+/// How long a read or a write that lingers waits, in milliseconds.
+const LINGER: u64 = 2;
 
 /// How many connections the system keeps at most until they are accepted. The standard library asks for 128, which a burst
 /// overruns.
 const QUEUE: i32 = 4_096;
 
+/// How many bytes all connections hold beyond which each worker has to keep to its part of as many, of messages that are
+/// not whole and of pages that are not sent. So all hold twice as many at most.
+const MOST_HELD: u64 = 67_108_864;
+
+/// That one set of those that have the descriptor is told, and not each.
+const EPOLLEXCLUSIVE: u32 = 1 << 28;
+
+/// The system's table of open files is full.
+const ENFILE: i32 = 23;
+
+/// The system has no room for buffers.
+const ENOBUFS: i32 = 105;
+
 /// How many connections are served, and how long they may rest.
 #[derive(Clone, Copy)]
 pub struct Limits {
-    /// How many connections are served in all, 0 for no end.
+    /// How many workers there are, at least one.
+    pub workers: u32,
+    /// How many connections each worker serves, 0 for no end.
     pub connections: u64,
-    /// How many are open at a time. Beyond them the one that waits for longest is closed.
+    /// How many are open at a time. Beyond them the address with the most of a worker's that wait loses its oldest.
     pub open: u64,
     /// How long one rests between two messages, in milliseconds.
     pub rest: u64,
+    /// Nobody outside knows it: addresses are told apart by their hash with it.
+    pub key: u64,
 }
 
-/// What accepts, and how many it still accepts where that has an end.
-struct Gateway {
-    listener: Option<TcpListener>,
-    left: Option<u64>,
+/// What came of accepting a connection.
+pub enum Arrival {
+    /// One that this worker is to serve. It was counted.
+    Own(Accepted),
+    /// One that can't be had, or that another worker was given.
+    Passed,
+    /// None waits, or none is accepted any more.
+    Nothing,
+    /// One waits, and there is no descriptor or memory for it.
+    Full,
 }
 
-impl Drop for Gateway {
-    fn drop(self) {
-        let Gateway {
-            listener: _,
-            left: _,
-        } = self;
-    }
-}
-
-impl Gateway {
-    /// Counts a connection that was accepted. After the last one nothing listens.
-    fn count(&mut self) {
-        let left = self.left.map(|left| left.saturating_sub(1));
-        self.left = left;
-        if left == Some(0) {
-            self.listener = None;
-        }
-    }
-}
-
-/// The connections of all doors over one listening socket.
-pub struct Entrance<'a, R: Wait + time::Clock> {
-    rt: &'a R,
-    alloc: Global,
-    waits: Arc<Waits>,
-    gateway: Mutex<Gateway>,
-    /// The listener's place.
-    front: usize,
-    /// By their descriptors, the connections that no worker has.
-    table: Vec<Mutex<Option<Line<'a, R>>>>,
-    open: AtomicU64,
-    shut: AtomicU64,
-    swept: AtomicU64,
+/// The listening socket of all workers, and what they know of one another.
+pub struct Entrance {
+    listener: Mutex<Option<TcpListener>>,
+    seats: Vec<Seat>,
+    /// Is rung behind the page of each post, and ends once no connection will be served any more.
+    posts: Arc<Bell>,
+    held: AtomicU64,
+    ended: AtomicU64,
     limits: Limits,
     address: SocketAddr,
 }
 
-impl<R: Wait + time::Clock> Drop for Entrance<'_, R> {
+impl Drop for Entrance {
     fn drop(self) {
         let Entrance {
-            rt: _,
-            alloc: _,
-            waits: _,
-            gateway: _,
-            front: _,
-            table: _,
-            open: _,
-            shut: _,
-            swept: _,
+            listener: _,
+            seats: _,
+            posts: _,
+            held: _,
+            ended: _,
             limits: _,
             address: _,
         } = self;
     }
 }
 
-/// A listener whose accepted streams have these options from it.
+/// A listener that doesn't wait, and whose accepted streams have these options from it.
 fn with_options(listener: TcpListener) -> io::Result<TcpListener> {
     let _ = libc::net::listen(listener.as_raw_fd(), QUEUE);
     let stream = TcpStream::from(OwnedFd::from(listener));
@@ -106,272 +98,189 @@ fn with_options(listener: TcpListener) -> io::Result<TcpListener> {
     Ok(TcpListener::from(OwnedFd::from(stream)))
 }
 
-/// A place for each descriptor.
-fn empty_table<'a, R: time::Clock>(
-    alloc: Global,
-) -> Result<Vec<Mutex<Option<Line<'a, R>>>>, AllocError> {
-    let mut table = Vec::with_capacity(alloc, PLACES)?;
-    for _ in 0..PLACES {
-        table.push(Mutex::new(None))?;
+/// The workers, without connections.
+fn seats_for(net: &impl Net, alloc: Global, limits: &Limits) -> io::Result<Vec<Seat>> {
+    let left = match limits.connections {
+        0 => u64::MAX,
+        count => count,
+    };
+    let mut seats = Vec::new(alloc);
+    for _ in 0..limits.workers {
+        seats.push(Seat::new(net, alloc, left)?)?;
     }
-    Ok(table)
+    Ok(seats)
 }
 
-impl<'a, R: Wait + time::Clock + Net<Listener = TcpListener, Stream = TcpStream>> Entrance<'a, R> {
-    /// Listens at an address, as `127.0.0.1:8080`; the system gives the port where it is 0.
-    pub fn new(
-        rt: &'a R,
+impl Entrance {
+    /// Listens at an address, as `127.0.0.1:8080`; the system gives the port where it is 0. The bell is rung behind the
+    /// page of each post, and told the end where all workers served their connections.
+    pub fn new<R: Net<Listener = TcpListener, Stream = TcpStream>>(
+        rt: &R,
         alloc: Global,
         listen: &str,
         limits: Limits,
-    ) -> io::Result<Entrance<'a, R>> {
+        posts: Arc<Bell>,
+    ) -> io::Result<Entrance> {
         let listener = with_options(TcpListener::bind(rt, listen)?)?;
         let address = listener.local_addr()?;
-        let waits = Waits::new(rt)?;
-        let fd = listener.as_raw_fd();
-        if !waits.ask(fd, true, Wanted::Readable) {
-            return Err(last_error());
-        }
+        let seats = seats_for(rt, alloc, &limits)?;
         Ok(Entrance {
-            rt,
-            alloc,
-            waits: Arc::new(alloc, waits)?,
-            gateway: Mutex::new(Gateway {
-                listener: Some(listener),
-                left: Some(limits.connections).filter(|count| *count > 0),
-            }),
-            front: place_of(fd),
-            table: empty_table(alloc)?,
-            open: AtomicU64::new(0),
-            shut: AtomicU64::new(0),
-            swept: AtomicU64::new(0),
+            listener: Mutex::new(Some(listener)),
+            seats,
+            posts,
+            held: AtomicU64::new(0),
+            ended: AtomicU64::new(0),
             limits,
             address,
         })
     }
-}
 
-/// The place of a descriptor in the table.
-fn place_of(fd: i32) -> usize {
-    usize::try_from(fd).unwrap_or(WAKING)
-}
-
-impl<'a, R: Wait + time::Clock> Entrance<'a, R> {
     /// The address at which it listens.
     pub fn address(&self) -> SocketAddr {
         self.address
     }
 
-    /// Whether no more connections come, and none is open.
-    fn is_over(&self) -> bool {
-        self.shut.load(Ordering::SeqCst) > 0 && self.open.load(Ordering::SeqCst) == 0
-    }
-
-    /// The next connection whose message is whole or has a fault in what came of it, or None at the end.
-    pub fn give(&self, piece: &mut [u8]) -> Option<Line<'a, R>> {
-        for _ in self.rt.forever() {
-            if self.is_over() {
-                self.waits.wake();
-                return None;
-            }
-            self.sweep();
-            let Some(place) = self.waits.next() else {
-                continue;
-            };
-            if place == self.front {
-                self.accept();
-            } else if let Some(line) = self.take(place) {
-                let given = self.advance(line, piece);
-                if given.is_some() {
-                    return given;
-                }
-            }
-        }
-        unreachable!()
-    }
-
-    /// Does what can be done at once, and gives the connection back where its message is to be served.
-    fn advance(&self, mut line: Line<'a, R>, piece: &mut [u8]) -> Option<Line<'a, R>> {
-        match line.advance(piece) {
-            Step::Serve => return Some(line),
-            Step::Wait => self.park(line),
-            Step::Finish => self.finish(line),
-            Step::Close => self.close(line),
-        }
-        None
-    }
-
-    /// Takes a connection back that has no whole message: it waits for one.
-    pub fn rest(&self, mut line: Line<'a, R>) {
-        line.begin_rest();
-        self.park(line);
-    }
-
-    /// Takes a connection back after its last message.
-    pub fn finish(&self, mut line: Line<'a, R>) {
-        if line.has_ended() && !line.has_unsent() {
-            self.close(line);
-        } else {
-            line.begin_close();
-            self.park(line);
+    /// Has a set tell of connections that wait, by this token: one of the sets, and not each (epoll_ctl(2)). Answers
+    /// whether it does, or nothing listens any more.
+    pub(crate) fn watch(&self, rt: &impl Wait, set: &Set, token: u64) -> bool {
+        match &*self.listener.lock(rt) {
+            Some(listener) => set.add(listener.as_raw_fd(), EPOLLIN | EPOLLEXCLUSIVE, token),
+            None => true,
         }
     }
 
-    /// Closes a connection.
-    pub fn close(&self, line: Line<'a, R>) {
-        line.close();
-        self.count_closed();
-    }
-
-    /// Counts a connection less, and wakes the others where it was the last.
-    fn count_closed(&self) {
-        self.open.fetch_sub(1, Ordering::SeqCst);
-        if self.is_over() {
-            self.waits.wake();
+    /// Has a set not tell of connections that wait.
+    pub(crate) fn leave(&self, rt: &impl Wait, set: &Set) {
+        if let Some(listener) = &*self.listener.lock(rt) {
+            let _ = set.remove(listener.as_raw_fd());
         }
     }
 
-    /// Accepts what waits, and asks for more.
-    fn accept(&self) {
-        let mut guard = self.gateway.lock(self.rt);
-        let gateway = &mut *guard;
-        for _ in 0..ACCEPTED {
-            let Some(listener) = &gateway.listener else {
-                break;
-            };
-            match listener.accept() {
-                Ok((stream, _from)) => {
-                    self.adopt(stream);
-                    gateway.count();
-                }
-                Err(e) if e.kind() == ErrorKind::WouldBlock => break,
-                Err(e) if e.kind() == ErrorKind::ConnectionAborted => {}
-                // No descriptor is free, say. Where none can be freed, the next sweep asks again.
-                Err(_) if self.evict(false) => {}
-                Err(_) => return,
-            }
-        }
-        self.ask_for_more(gateway);
+    /// The worker of a number, as others see it.
+    pub(crate) fn seat(&self, number: usize) -> Option<&Seat> {
+        self.seats.get(number)
     }
 
-    /// Asks the set for the next connection, or notes that none comes.
-    fn ask_for_more(&self, gateway: &Gateway) {
-        match &gateway.listener {
-            Some(listener) => {
-                let _ = self
-                    .waits
-                    .ask(listener.as_raw_fd(), false, Wanted::Readable);
-            }
-            None => self.shut.store(1, Ordering::SeqCst),
-        }
+    /// Is rung behind the page of each post.
+    pub(crate) fn posts(&self) -> &Arc<Bell> {
+        &self.posts
     }
 
-    /// Takes a new connection into the set.
-    fn adopt(&self, stream: TcpStream) {
-        let open = self.open.fetch_add(1, Ordering::SeqCst);
-        let has_room = open < self.limits.open || self.evict(false);
-        match Arc::try_clone(&self.waits) {
-            Ok(waits) if has_room => self.park(Line::new(self.rt, self.alloc, waits, stream)),
-            _ => {
-                drop(stream);
-                self.count_closed();
-            }
+    /// How long a connection rests, in milliseconds.
+    pub(crate) fn rest(&self) -> u64 {
+        self.limits.rest
+    }
+
+    /// How many connections one worker has at most, before it closes one for each that comes.
+    pub(crate) fn share(&self) -> u64 {
+        (self.limits.open / u64::from(self.limits.workers.max(1))).max(1)
+    }
+
+    /// A number for an address, the same for each port. Of IPv6 its first half counts, which is one customer's.
+    pub(crate) fn number_of(&self, address: &SocketAddr) -> u64 {
+        let mut hasher = DefaultHasher::new();
+        hasher.write_u64(self.limits.key);
+        match address.ip() {
+            IpAddr::V4(ip) => hasher.write_u64(u64::from(ip.to_bits())),
+            IpAddr::V6(ip) => hasher.write_u64((ip.to_bits() >> 64) as u64),
+        }
+        hasher.finish()
+    }
+
+    /// Whether a worker whose connections hold so many bytes has room for more.
+    pub(crate) fn has_room(&self, own: u64) -> bool {
+        self.held.load(Ordering::SeqCst) < MOST_HELD
+            || own < MOST_HELD / u64::from(self.limits.workers.max(1))
+    }
+
+    /// Tells that a connection which held `before` bytes holds `after`.
+    pub(crate) fn hold(&self, before: u64, after: u64) {
+        if before != after {
+            self.held.fetch_add(after, Ordering::SeqCst);
+            self.held.fetch_sub(before, Ordering::SeqCst);
         }
     }
 
-    /// Puts a connection into the table, and asks the set for it. The set tells nothing of it before it is asked, so that
-    /// no other worker looks for it too early.
-    fn park(&self, mut line: Line<'a, R>) {
-        line.count();
-        let fd = line.fd();
-        let (is_new, wanted) = line.wanted();
-        let place = place_of(fd);
-        let Some(slot) = self.table.get(place) else {
-            self.close(line);
-            return;
+    /// Notes that a worker served all its connections. The last one tells the end.
+    pub(crate) fn end_one(&self) {
+        let ended = self.ended.fetch_add(1, Ordering::SeqCst);
+        if ended.saturating_add(1) >= u64::from(self.limits.workers) {
+            self.posts.end();
+        }
+    }
+
+    /// Accepts one connection, for this worker or for the one that has the fewest. After the last one nothing listens.
+    pub(crate) fn accept(&self, rt: &impl Wait, number: usize) -> Arrival {
+        let mut guard = self.listener.lock(rt);
+        let arrival = match &*guard {
+            Some(listener) => self.accept_at(rt, listener, number),
+            None => Arrival::Nothing,
         };
-        let before = slot.lock(self.rt).replace(line);
-        drop(before);
-        if !self.waits.ask(fd, is_new, wanted) {
-            self.close_at(place);
+        if !self.seats.iter().any(Seat::is_open) {
+            *guard = None;
         }
-        self.make_room();
+        arrival
     }
 
-    /// Where all connections together hold too much, drops of those that hold much the ones that wait for longest. So no
-    /// worker has to wait for the rest of a message to make room.
-    fn make_room(&self) {
-        for _ in 0..PLACES {
-            if self.waits.has_room() || !self.evict(true) {
-                return;
+    /// Accepts one connection.
+    fn accept_at(&self, rt: &impl Wait, listener: &TcpListener, number: usize) -> Arrival {
+        let accepted = match listener.accept() {
+            Ok(accepted) => accepted,
+            Err(error) => return arrival_of(&error),
+        };
+        let chosen = self.choose(number);
+        let Some(seat) = self.seats.get(chosen) else {
+            drop(accepted);
+            return Arrival::Passed;
+        };
+        seat.count_accepted();
+        if chosen == number {
+            return Arrival::Own(accepted);
+        }
+        seat.give(rt, accepted);
+        Arrival::Passed
+    }
+
+    /// The worker that is to have the next connection: the one with the fewest, this one where there are several. Where
+    /// all have their share it is this one, which closes another for it.
+    fn choose(&self, number: usize) -> usize {
+        let mut chosen = number;
+        let mut fewest = self.open_at(number);
+        for (i, seat) in self.seats.iter().enumerate() {
+            if seat.is_open() && seat.open() < fewest {
+                fewest = seat.open();
+                chosen = i;
             }
         }
-    }
-
-    /// Takes the connection of this descriptor out of the table.
-    fn take(&self, place: usize) -> Option<Line<'a, R>> {
-        match self.table.get(place) {
-            Some(slot) => slot.lock(self.rt).take(),
-            None => None,
+        if fewest >= self.share() && self.open_at(number) < u64::MAX {
+            number
+        } else {
+            chosen
         }
     }
 
-    /// Closes the connection of this descriptor where no worker has it, and answers whether it was so.
-    fn close_at(&self, place: usize) -> bool {
-        match self.take(place) {
-            Some(line) => {
-                self.close(line);
-                true
-            }
-            None => false,
+    /// How many connections a worker has, and the greatest number where it is to have no more.
+    fn open_at(&self, number: usize) -> u64 {
+        match self.seats.get(number) {
+            Some(seat) if seat.is_open() => seat.open(),
+            _ => u64::MAX,
         }
-    }
-
-    /// Drops what waits for too long, every half second.
-    fn sweep(&self) {
-        let now = millis(self.rt);
-        let last = self.swept.load(Ordering::SeqCst);
-        if now < last.saturating_add(SWEEP)
-            || self
-                .swept
-                .compare_exchange(last, now, Ordering::SeqCst, Ordering::SeqCst)
-                .is_err()
-        {
-            return;
-        }
-        self.ask_for_more(&self.gateway.lock(self.rt));
-        for slot in &self.table {
-            if let Some(line) = late_line(&mut slot.lock(self.rt), self.limits.rest, now) {
-                self.close(line);
-            }
-        }
-    }
-
-    /// Drops the connection that waits for longest, maybe only of those that hold much, and answers whether there was one.
-    fn evict(&self, of_holding: bool) -> bool {
-        let mut oldest = u64::MAX;
-        let mut place = WAKING;
-        for (i, slot) in self.table.iter().enumerate() {
-            if let Some(line) = &*slot.lock(self.rt) {
-                if line.since() < oldest && (line.holds_much() || !of_holding) {
-                    oldest = line.since();
-                    place = i;
-                }
-            }
-        }
-        self.close_at(place)
     }
 }
 
-/// The connection of a place, taken out where it waits there for too long.
-fn late_line<'a, R: time::Clock>(
-    slot: &mut Option<Line<'a, R>>,
-    rest: u64,
-    now: u64,
-) -> Option<Line<'a, R>> {
-    if slot.as_ref().is_some_and(|line| line.limit(rest) < now) {
-        slot.take()
-    } else {
-        None
+/// What an error of accept says. Of most nothing is to be done but to go on: they are of one connection, as one that was
+/// given up again, or end by themselves.
+fn arrival_of(error: &io::Error) -> Arrival {
+    if error.kind() == ErrorKind::WouldBlock {
+        return Arrival::Nothing;
     }
+    match error.raw_os_error() {
+        Some(code) if wants_descriptor(code) => Arrival::Full,
+        _ => Arrival::Passed,
+    }
+}
+
+/// Whether an error of accept is want of a descriptor or of memory.
+fn wants_descriptor(code: i32) -> bool {
+    code == EMFILE || code == ENFILE || code == ENOBUFS || code == ENOMEM
 }

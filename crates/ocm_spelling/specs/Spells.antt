@@ -1,8 +1,9 @@
 -- The bytes of an ask, as a journal keeps them. Numbers are big-endian.
-use Rattle.std.specs.Prelude.{◌≡◌, ℕ, ◌+◌, ◌<◌, ◌≤◌, ◌^◌, Bool, true, false, ◌&&◌, nat_le, if◌then◌else◌, List, [], ◌∷◌, ◌++◌, length, slice_index, Option, Some, None, IsTrue, IfSome}
+use Rattle.std.specs.Prelude.{◌≡◌, ℕ, ◌+◌, ◌<◌, ◌≤◌, ◌^◌, Bool, true, false, ◌&&◌, nat_le, if◌then◌else◌, List, [], ◌∷◌, ◌++◌, length, Option, Some, None, IsTrue, IfSome}
 use Rattle.std.specs.Int.{w16, w32, w64, to_be_bytes}
 use Rattle.std.specs.Str.{is_utf8}
 use Rattle.ocm_limits.specs.Limits.{most_file_bytes}
+pub use Rattle.ocm_texts.specs.Hex.{AreBytes}
 use Rattle.ocm_types.specs.declared.addresses.Address.{Address}
 use Rattle.ocm_types.specs.declared.rights.Rights.{Rights}
 use Rattle.ocm_types.specs.declared.letters.Offer.{Offer}
@@ -223,10 +224,6 @@ Fits asks.Due = ⊥
 Fits (asks.Settle number status id) = (number < 2 ^ 32) × (status < 2 ^ 16) × IfSome id IsProviderId
 Fits (asks.Tick clock) = clock < 2 ^ 64
 Fits (asks.Carry secret from to moving overwrite) = IsSecret secret × IsShortPath from × IsShortPath to
-
--- numbers below 256, as bytes are
-abbrev pub AreBytes : List ℕ → Type 0
-AreBytes bytes = (i : ℕ) → slice_index bytes i < 256
 
 -- the bytes spell the ask
 pub record Spells (ask : Ask) (bytes : List ℕ) : Type 0 where

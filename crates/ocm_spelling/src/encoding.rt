@@ -273,7 +273,8 @@ pub fn encode(alloc: Global, ask: &Ask) -> Result<Bytes, NoMemory>
     Ok(out)
 }
 
-fn add_ask(alloc: Global, out: &mut Bytes, ask: &Ask) -> Result<(), NoMemory>
+/// Adds the one spelling of the ask.
+pub fn add_ask(alloc: Global, out: &mut Bytes, ask: &Ask) -> Result<(), NoMemory>
     requires { IsTrue (spells.has_spelling ask.now) }
     ensures ok { OnOk result (out.new ≡ out.old ++ spells.spelling ask.now) }
     ensures fits { OnOk result (spells.Fits ask.now) }

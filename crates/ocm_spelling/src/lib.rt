@@ -1,5 +1,5 @@
 //! The bytes of asks, as a journal keeps them: an ask that may change something has one spelling
-//! ([`encode`], [`decode`]).
+//! ([`encode`], [`add_ask`], [`decode`]).
 #![tactic(auto)]
 
 mod appending;
@@ -10,5 +10,5 @@ mod fields;
 pub mod laws;
 
 pub use decoding::decode;
-pub use encoding::{encode, has_spelling};
+pub use encoding::{add_ask, encode, has_spelling};
 pub use entry_faults::EntryFault;

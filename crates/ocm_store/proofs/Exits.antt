@@ -1,6 +1,6 @@
 -- What a call does, by each way on which it ends.
-use Rattle.std.proofs.Common.{◌≡◌, inl, inr, ℕ, ◌+◌, ◌<◌, ◌≤◌, List, ◌∷◌, ◌++◌, Bool, true, false, refl, sym, ap, ◌∙◌, subst, arith, Option, Some, None}
-use Rattle.std.specs.Prelude.{IfSome}
+use Rattle.std.proofs.Common.{◌≡◌, inl, inr, ℕ, ◌+◌, ◌<◌, ◌≤◌, ◌==◌, List, ◌∷◌, ◌++◌, Bool, true, false, refl, sym, ap, ◌∙◌, subst, arith, Option, Some, None}
+use Rattle.std.specs.Prelude.{◌&&◌, IfSome, not}
 use Rattle.std.specs.Option.{option_or}
 use Rattle.ocm_base.specs.Outside.{raised}
 use Rattle.ocm_core.proofs.Standing.{reply-after}
@@ -14,9 +14,11 @@ use Rattle.ocm_history.specs.declared.histories.History.{History}
 use Rattle.ocm_history.specs.Changes.{told}
 use Rattle.ocm_history.specs.Histories.{IsOf, SameMemory, home_of}
 use Rattle.ocm_history.proofs.Memories.{failed-of, same-of, told-heard, unchanged-of, would-plan}
+use Rattle.ocm_journal.specs.AfterFaults.{AfterFault}
 use Rattle.ocm_journal.specs.declared.journal.Journal.{Journal}
 use Rattle.ocm_journal.specs.Journals as journals
 use Rattle.ocm_journal.specs.Journals.{StandsFor}
+use Rattle.ocm_journal.specs.LiveAreas.{LiveArea}
 use Rattle.ocm_journal.proofs.Moving.{joined, weaker}
 use Rattle.ocm_law_sessions.specs.Readings.{opened}
 use Rattle.ocm_law_sessions.specs.Sessions.{IsChangeReply, IsReply, IsToldReply, count_of, fault_in, fits, heard, would_change}
@@ -34,8 +36,9 @@ use Rattle.ocm_store.specs.declared.stores.Store.{Store}
 use Rattle.ocm_store.specs.declared.terms.Terms.{Terms}
 use Rattle.ocm_store.specs.declared.write_faults.WriteFault.{WriteFault}
 use Rattle.ocm_store.specs.declared.write_faults.WriteFault.TheVariants as write_faults
-use Rattle.ocm_store.specs.Acts.{Acts, IsWithOrWithout, Spends, SpendsNone, StandsLegally}
+use Rattle.ocm_store.specs.Acts.{Acts, Grows, IsWithOrWithout, Spends, SpendsNone, StandsLegally}
 use Rattle.ocm_store.specs.Faults.{HasCount, IsNoDiskFault, count_told, reply_told}
+use Rattle.ocm_store.specs.Growing.{HasLiveArea, OpensLive, grown_by, live_after, switches_to_second}
 use Rattle.ocm_store.specs.Stores.{IsLegalUnder, IsWritten, LeavesNext, Stands, area_of, disk_of, fault_of, host_of, terms_of}
 
 -- what a crash leaves before a call it leaves after one that changed nothing
@@ -43,7 +46,7 @@ leaves-idle : (terms : Terms) (k h : List Entry) (e : Entry) (c : List ℕ) → 
 leaves-idle terms k h e c counts same left = (left.0, left.1, next-idle terms.host k h e left.0 counts same left.2)
 
 -- and within it
-leaves-in_flight : (terms : Terms) (k h : List Entry) (ask : Ask) (c : List ℕ) → LeavesNext terms k h None c → LeavesNext terms k h (Some ask) c
+pub leaves-in_flight : (terms : Terms) (k h : List Entry) (ask : Ask) (c : List ℕ) → LeavesNext terms k h None c → LeavesNext terms k h (Some ask) c
 leaves-in_flight terms k h ask c left = (left.0, left.1, next-in_flight terms.host k h ask left.0 left.2)
 
 -- with a change or without it, bytes open to what may follow while it is in flight
@@ -148,14 +151,65 @@ module _ {D : Type 0} (disk : Ghosts D) where
       (leaves tells (h ++ k) s.stands.memory (s.stands.written tells goes))
       (λ c either. either-next (terms_of old) k h ask c (s.stands.fault ∙ goes) (changing k h s) either)
 
+  -- ---- the live area
+
+  -- what does not change the journal's live area keeps it
+  abbrev StillLive : Store D disk → Store D disk → Type 0
+  StillLive old new = disk.tells → (host : List ℕ) (live : LiveArea) → HasLiveArea disk host live old → HasLiveArea disk host live new
+
+  shape-still : (old new : Store D disk) → journals.SameShape old.journal new.journal → StandsOn old new → StillLive old new
+  shape-still old new shape holds = λ tells host live h. record { first = ap (λ s. s == 512) shape.2 ∙ h.first; form = shape.1 ∙ h.form; holds = holds tells host live.records h.holds }
+
+  -- a call that makes nothing
+  grows-unmade : (old new : Store D disk) (ask : Ask) (reply : Reply) → count_of reply ≡ None → StillLive old new
+      → ((k h : List Entry) → StandsLegally disk old k h → (would_change (host_of old) (h ++ k) ask && not (is_failure reply)) ≡ false)
+      → ((count : ℕ) → fault_of old ≡ Some count → disk_of new ≡ disk_of old) → Grows disk old new ask reply
+  grows-unmade old new ask reply counts still none stopped = record {
+    live = λ tells k h live s has told. subst (λ b. HasLiveArea disk (host_of old) (live_after b (host_of old) (area_of old) (h ++ k) ask live) new) (sym (none k h s)) (still tells (host_of old) live has);
+    after_fault = λ tells k h live count left s has is pass burnt. absurd (no_fault reply count counts is);
+    stopped = stopped;
+  }
+
+  -- a call of a store that is not stopped
+  not-stopped : (old new : Store D disk) → fault_of old ≡ None → (count : ℕ) → fault_of old ≡ Some count → disk_of new ≡ disk_of old
+  not-stopped old new goes count is = absurd (let wrong : None ≡ Some count = sym goes ∙ is in cc)
+
+  -- a failure makes nothing
+  fails-none : (b : Bool) (reply : Reply) → is_failure reply ≡ true → (b && not (is_failure reply)) ≡ false
+  fails-none true reply failed = ap not failed
+  fails-none false reply failed = refl
+
+  grows-made : (old new : Store D disk) (ask : Ask) (reply : Reply) → count_of reply ≡ None → is_failure reply ≡ false → fault_of old ≡ None → Changes old ask
+      → (disk.tells → (k h : List Entry) (live : LiveArea) → StandsLegally disk old k h → HasLiveArea disk (host_of old) live old → HasLiveArea disk (host_of old) (grown_by (host_of old) (area_of old) (h ++ k) ask live) new)
+      → Grows disk old new ask reply
+  grows-made old new ask reply counts done goes changing grown = record {
+    live = λ tells k h live s has told.
+        subst (λ (z : Bool × Bool). HasLiveArea disk (host_of old) (live_after (z.0 && not z.1) (host_of old) (area_of old) (h ++ k) ask live) new) (λ i. (sym (changing k h s) i, sym done i)) (grown tells k h live s has);
+    after_fault = λ tells k h live count left s has is pass burnt. absurd (no_fault reply count counts is);
+    stopped = not-stopped old new goes;
+  }
+
+  -- what stands on the disk after a call that told a fault
+  abbrev AfterCall : Store D disk → Store D disk → Ask → Type 0
+  AfterCall old new ask = disk.tells → (k h : List Entry) (live : LiveArea) (left : ℕ) → StandsLegally disk old k h → HasLiveArea disk (host_of old) live old → disk.passes (disk_of old) left → disk.burnt (disk_of old) left
+      → AfterFault disk left (switches_to_second (host_of old) (area_of old) (h ++ k) ask live) (OpensLive (host_of old) (area_of old) (h ++ k) live)
+      (OpensLive (host_of old) (area_of old) (heard (host_of old) (h ++ k) ask ∷ (h ++ k)) (grown_by (host_of old) (area_of old) (h ++ k) ask live)) (disk_of new)
+
+  grows-faulted : (old new : Store D disk) (ask : Ask) (count : ℕ) → fault_of old ≡ None → AfterCall old new ask → Grows disk old new ask (replies.DiskFault count)
+  grows-faulted old new ask count goes after = record {
+    live = λ tells k h live s has told. absurd (no_fault (replies.DiskFault count) count told refl);
+    after_fault = λ tells k h live n left s has is pass burnt. after tells k h live left s has pass burnt;
+    stopped = not-stopped old new goes;
+  }
+
   -- ---- a change that is not made, though the disk did not fail
 
   acts-unmade : (old new : Store D disk) (ask : Ask) (reply : Reply) → count_of reply ≡ None → is_failure reply ≡ true → fault_of old ≡ None → fault_of new ≡ None
       → SameMemory old.history new.history → area_of new ≡ area_of old
       → ((k h : List Entry) → StandsLegally disk old k h → disk.tells → IsWritten disk (host_of old) (h ++ k) new.journal)
       → ((k h : List Entry) → StandsLegally disk old k h → disk.tells → LeavesOnly disk.moment disk.left_since (disk_of old) (disk_of new) (LeavesNext (terms_of old) k h (Some ask)))
-      → disk.count (disk_of new) ≡ disk.count (disk_of old) → SpendsNone disk (disk_of old) (disk_of new) → Changes old ask → MayReply old ask reply → Acts disk old new ask reply
-  acts-unmade old new ask reply counts failed goes goes_on same area written leaves count spends changing legal = record {
+      → disk.count (disk_of new) ≡ disk.count (disk_of old) → SpendsNone disk (disk_of old) (disk_of new) → Changes old ask → MayReply old ask reply → StillLive old new → Acts disk old new ask reply
+  acts-unmade old new ask reply counts failed goes goes_on same area written leaves count spends changing legal still = record {
     terms = same-terms old new (same-home old.history new.history same) area;
     stands = λ k h s.
         stands-written new (host_of old) k (told ask reply ∷ h) (ap (λ o. option_or o (fault_in h)) counts ∙ s.stands.fault ∙ goes) goes_on (same-home old.history new.history same)
@@ -170,6 +224,7 @@ module _ {D : Type 0} (disk : Ghosts D) where
     not_made = λ f none. spends;
     fewer = λ k h left s changes few burnt. failed;
     passes = λ left pass. counts;
+    journal = grows-unmade old new ask reply counts still (λ k h s. fails-none (would_change (host_of old) (h ++ k) ask) reply failed) (not-stopped old new goes);
   }
 
   -- since there was no memory, or it does not fit
@@ -179,7 +234,7 @@ module _ {D : Type 0} (disk : Ghosts D) where
   acts-room old new ask reply counts failed goes goes_on same shape holds leaves count spends changing legal =
       acts-unmade old new ask reply counts failed goes goes_on same shape.0
       (λ k h s tells. written-same (host_of old) (h ++ k) (h ++ k) old.journal new.journal refl shape.1 (holds tells) (s.stands.written tells goes))
-      (λ k h s tells. room-leaves old new ask k h s tells leaves) count spends changing legal
+      (λ k h s tells. room-leaves old new ask k h s tells leaves) count spends changing legal (shape-still old new shape holds)
 
   -- ---- a change that is made
 
@@ -188,8 +243,10 @@ module _ {D : Type 0} (disk : Ghosts D) where
       → ((g : List Entry) → IsOf old.history g → IsOf new.history (told ask reply ∷ g))
       → (disk.tells → (g : List Entry) → IsOf old.history g → IsWritten disk (host_of old) g old.journal → IsWritten disk (host_of old) (told ask reply ∷ g) new.journal)
       → LeavesEither old new ask → disk.count (disk_of new) ≡ disk.count (disk_of old) → Spends disk 4 (disk_of old) (disk_of new)
-      → ((left : ℕ) → left < 4 → disk.burnt (disk_of old) left → ⊥) → Changes old ask → MayReply old ask reply → Acts disk old new ask reply
-  acts-made old new ask reply counts done goes goes_on home area memory written leaves count spends enough changing legal = record {
+      → ((left : ℕ) → left < 4 → disk.burnt (disk_of old) left → ⊥) → Changes old ask → MayReply old ask reply
+      → (disk.tells → (k h : List Entry) (live : LiveArea) → StandsLegally disk old k h → HasLiveArea disk (host_of old) live old → HasLiveArea disk (host_of old) (grown_by (host_of old) (area_of old) (h ++ k) ask live) new)
+      → Acts disk old new ask reply
+  acts-made old new ask reply counts done goes goes_on home area memory written leaves count spends enough changing legal grown = record {
     terms = same-terms old new home area;
     stands = λ k h s.
         stands-written new (host_of old) k (told ask reply ∷ h) (ap (λ o. option_or o (fault_in h)) counts ∙ s.stands.fault ∙ goes) goes_on home (memory (h ++ k) s.stands.memory)
@@ -203,6 +260,7 @@ module _ {D : Type 0} (disk : Ghosts D) where
     not_made = λ f none. absurd (not_both _ f done);
     fewer = λ k h left s changes few burnt. absurd (enough left few burnt);
     passes = λ left pass. counts;
+    journal = grows-made old new ask reply counts done goes changing grown;
   }
 
   -- ---- a change in which the disk failed
@@ -210,8 +268,8 @@ module _ {D : Type 0} (disk : Ghosts D) where
   acts-faulted : ((d : D) (t : ℕ) (c : List ℕ) → t ≤ disk.moment d → disk.may_leave d c → disk.left_since d t c) → ((d : D) → disk.may_leave d (disk.seen d))
       → (old new : Store D disk) (ask : Ask) (count : ℕ) → fault_of old ≡ None → fault_of new ≡ Some count → SameMemory old.history new.history → area_of new ≡ area_of old → LeavesEither old new ask
       → count ≡ disk.count (disk_of new) → disk.count (disk_of new) ≡ raised (disk.count (disk_of old)) → ((left : ℕ) → disk.passes (disk_of old) (left + 4) → ⊥)
-      → Changes old ask → MayReply old ask (replies.DiskFault count) → Acts disk old new ask (replies.DiskFault count)
-  acts-faulted counts_now reads_own old new ask count goes stopped same area leaves told_count rose enough changing legal = record {
+      → Changes old ask → MayReply old ask (replies.DiskFault count) → AfterCall old new ask → Acts disk old new ask (replies.DiskFault count)
+  acts-faulted counts_now reads_own old new ask count goes stopped same area leaves told_count rose enough changing legal after = record {
     terms = own;
     stands = λ k h s. record {
       memory = failed-of new.history (h ++ k) ask (replies.DiskFault count) (same-of old.history new.history (h ++ k) same s.stands.memory) refl;
@@ -230,6 +288,7 @@ module _ {D : Type 0} (disk : Ghosts D) where
     not_made = λ f none. absurd (cc);
     fewer = λ k h left s changes few burnt. refl;
     passes = λ left pass. absurd (enough left pass);
+    journal = grows-faulted old new ask count goes after;
   }
     where
       home : host_of new ≡ host_of old
@@ -249,26 +308,30 @@ module _ {D : Type 0} (disk : Ghosts D) where
 
   -- ---- a change that was not written
 
+  -- a fault of the disk
+  abbrev Breaks : WriteFault → Type 0
+  Breaks fault = (n : ℕ) × (fault ≡ write_faults.DiskFault n)
+
   pub acts-failed : ((d : D) (t : ℕ) (c : List ℕ) → t ≤ disk.moment d → disk.may_leave d c → disk.left_since d t c) → ((d : D) → disk.may_leave d (disk.seen d))
       → (old new : Store D disk) (ask : Ask) (fault : WriteFault) (reply : Reply) → reply ≡ reply_told fault → fault_of old ≡ None → fault_of new ≡ count_told fault
       → SameMemory old.history new.history → area_of new ≡ area_of old
       → (disk.tells → (g : List Entry) → IsOf old.history g → IsWritten disk (host_of old) g old.journal → IsNoDiskFault fault → IsWritten disk (host_of old) g new.journal)
       → LeavesEither old new ask → HasCount (disk.count (disk_of old)) (disk.count (disk_of new)) fault → (IsNoDiskFault fault → SpendsNone disk (disk_of old) (disk_of new))
       → ((left : ℕ) → disk.passes (disk_of old) (left + 4) → IsNoDiskFault fault) → Changes old ask
-      → ((k h : List Entry) → StandsLegally disk old k h → IsReply (host_of old) (area_of old) k h ask (reply_told fault)) → Acts disk old new ask reply
-  acts-failed counts_now reads_own old new ask fault reply is goes told_it same area unwritten leaves count spends enough changing legal = subst (λ r. Acts disk old new ask r) (sym is) (by_fault fault told_it unwritten count spends enough legal)
+      → ((k h : List Entry) → StandsLegally disk old k h → IsReply (host_of old) (area_of old) k h ask (reply_told fault)) → (IsNoDiskFault fault → StillLive old new) → (Breaks fault → AfterCall old new ask) → Acts disk old new ask reply
+  acts-failed counts_now reads_own old new ask fault reply is goes told_it same area unwritten leaves count spends enough changing legal still after = subst (λ r. Acts disk old new ask r) (sym is) (by_fault fault told_it unwritten count spends enough legal still after)
     where
       by_fault : (f : WriteFault) → fault_of new ≡ count_told f
           → (disk.tells → (g : List Entry) → IsOf old.history g → IsWritten disk (host_of old) g old.journal → IsNoDiskFault f → IsWritten disk (host_of old) g new.journal)
           → HasCount (disk.count (disk_of old)) (disk.count (disk_of new)) f → (IsNoDiskFault f → SpendsNone disk (disk_of old) (disk_of new))
-          → ((left : ℕ) → disk.passes (disk_of old) (left + 4) → IsNoDiskFault f) → MayReply old ask (reply_told f) → Acts disk old new ask (reply_told f)
-      by_fault (write_faults.DiskFault n) stopped kept_on rose none few may = acts-faulted counts_now reads_own old new ask n goes stopped same area leaves rose.0 rose.1 few changing may
-      by_fault write_faults.Full fine kept_on stays none few may =
+          → ((left : ℕ) → disk.passes (disk_of old) (left + 4) → IsNoDiskFault f) → MayReply old ask (reply_told f) → (IsNoDiskFault f → StillLive old new) → (Breaks f → AfterCall old new ask) → Acts disk old new ask (reply_told f)
+      by_fault (write_faults.DiskFault n) stopped kept_on rose none few may live_on broken = acts-faulted counts_now reads_own old new ask n goes stopped same area leaves rose.0 rose.1 few changing may (broken (n, refl))
+      by_fault write_faults.Full fine kept_on stays none few may live_on broken =
           acts-unmade old new ask replies.JournalFull refl refl goes fine same area (λ k h s tells. kept_on tells (h ++ k) s.stands.memory (s.stands.written tells goes) tt)
-          (λ k h s tells. change-leaves old new ask k h s tells goes changing leaves) stays (none tt) changing may
-      by_fault write_faults.NoMemory fine kept_on stays none few may =
+          (λ k h s tells. change-leaves old new ask k h s tells goes changing leaves) stays (none tt) changing may (live_on tt)
+      by_fault write_faults.NoMemory fine kept_on stays none few may live_on broken =
           acts-unmade old new ask replies.NoMemory refl refl goes fine same area (λ k h s tells. kept_on tells (h ++ k) s.stands.memory (s.stands.written tells goes) tt)
-          (λ k h s tells. change-leaves old new ask k h s tells goes changing leaves) stays (none tt) changing may
+          (λ k h s tells. change-leaves old new ask k h s tells goes changing leaves) stays (none tt) changing may (live_on tt)
 
   -- ---- what may be told of a change
 
@@ -310,6 +373,16 @@ module _ {D : Type 0} (disk : Ghosts D) where
     not_made = λ failed none. (λ left. (let no = acts.not_made failed none left in (λ burnt. no.0 ((spends left).0 burnt), λ pass. no.1 ((spends left).1 pass))));
     fewer = λ k h left s changes few burnt. acts.fewer k h left (after k h s) (same_would k h ∙ changes) few ((spends left).0 burnt);
     passes = λ left pass. acts.passes left ((spends (left + 4)).1 pass);
+    journal = record {
+      live = λ tells k h live s has told.
+          subst (λ (t : Terms). HasLiveArea disk t.host (live_after (would_change t.host (h ++ k) ask && not (is_failure reply)) t.host t.area (h ++ k) ask live) new) own
+          (acts.journal.live tells k h live (after k h s) (live_on tells live has) told);
+      after_fault = λ tells k h live count left s has is pass burnt.
+          subst (λ (t : Terms). AfterFault disk left (switches_to_second t.host t.area (h ++ k) ask live) (OpensLive t.host t.area (h ++ k) live)
+          (OpensLive t.host t.area (heard t.host (h ++ k) ask ∷ (h ++ k)) (grown_by t.host t.area (h ++ k) ask live)) (disk_of new)) own
+          (acts.journal.after_fault tells k h live count left (after k h s) (live_on tells live has) is ((spends left).1 pass) ((spends left).0 burnt));
+      stopped = not-stopped old new goes;
+    };
   }
     where
       home : host_of middle ≡ host_of old
@@ -317,6 +390,9 @@ module _ {D : Type 0} (disk : Ghosts D) where
 
       own : terms_of middle ≡ terms_of old
       own = same-terms old middle home shape.0
+
+      live_on : disk.tells → (live : LiveArea) → HasLiveArea disk (host_of old) live old → HasLiveArea disk (host_of middle) live middle
+      live_on tells live has = subst (λ host. HasLiveArea disk host live middle) (sym home) (shape-still old middle shape holds tells (host_of old) live has)
 
       same_would : (k h : List Entry) → would_change (host_of middle) (h ++ k) ask ≡ would_change (host_of old) (h ++ k) ask
       same_would k h = ap (λ host. would_change host (h ++ k) ask) home
@@ -366,7 +442,12 @@ module _ {D : Type 0} (disk : Ghosts D) (only_now : (d : D) (c : List ℕ) → d
     not_made = λ failed none left. (λ b. b, λ p. p);
     fewer = λ k h left s changes few burnt. failing k h s changes;
     passes = λ left pass. counts;
+    journal = grows-unmade disk store store ask reply counts (λ tells host live has. has) (λ k h s. unmade (would_change (host_of store) (h ++ k) ask) (failing k h s)) (λ count is. refl);
   }
+    where
+      unmade : (b : Bool) → (b ≡ true → is_failure reply ≡ true) → (b && not (is_failure reply)) ≡ false
+      unmade true failed = ap not (failed refl)
+      unmade false failed = refl
 
   -- an answer that changes nothing
   pub acts-idle : (store : Store D disk) (ask : Ask) (plan : Plan) → Plans store.history.core.state ask plan → is_kept plan.change ≡ false → Acts disk store store ask plan.reply

@@ -1,6 +1,6 @@
 -- What a journal has once a change is written, and what a crash leaves of it.
-use Rattle.std.proofs.Common.{◌≡◌, ◌⊎◌, inl, inr, ℕ, ◌+◌, ◌<◌, List, [], ◌∷◌, ◌++◌, true, false, refl, sym, ap, ◌∙◌, subst, arith, Some}
-use Rattle.std.specs.Prelude.{nat_le, IsErrOf, IsOk, Result, Ok, Err}
+use Rattle.std.proofs.Common.{◌≡◌, ◌⊎◌, inl, inr, ℕ, ◌+◌, ◌<◌, ◌==◌, List, [], ◌∷◌, ◌++◌, length, Bool, true, false, refl, sym, ap, ◌∙◌, subst, arith, Some}
+use Rattle.std.specs.Prelude.{◌&&◌, not, nat_le, IfErr, IsErrOf, IsOk, OnOk, Result, Ok, Err}
 use Rattle.std.proofs.lemmas.Bool.Decides.{nat_tests}
 use Rattle.ocm_disk.specs.Disk.{LeavesOnly}
 use Rattle.ocm_disk.specs.declared.disk.Disk.{Ghosts}
@@ -12,20 +12,23 @@ use Rattle.ocm_history.specs.Changes.{FitsInto, IsChange}
 use Rattle.ocm_history.specs.Histories.{home_of}
 use Rattle.ocm_history.proofs.Memories.{change-would, with_change}
 use Rattle.ocm_image.specs.Layout.{IsImage, blocks_size}
+use Rattle.ocm_image.proofs.OneImage.{one_image}
+use Rattle.ocm_journal.specs.AfterFaults.{AfterFault}
 use Rattle.ocm_journal.specs.declared.appending.AppendFault.{AppendFault}
 use Rattle.ocm_journal.specs.declared.appending.AppendFault.TheVariants as appends
 use Rattle.ocm_journal.specs.declared.journal.Journal.{Journal}
 use Rattle.ocm_journal.specs.declared.renewing.RenewFault.{RenewFault}
 use Rattle.ocm_journal.specs.declared.renewing.RenewFault.TheVariants as renewals
-use Rattle.ocm_journal.specs.Journals.{IsBeforeOrAfter, IsOldOrNew, StandsFor, area_of, disk_of, form_of}
+use Rattle.ocm_journal.specs.Journals.{IsBeforeOrAfter, IsFullFor, IsImageWith, IsOldOrNew, SameShape, StandsFor, area_of, disk_of, first_is_live, form_of}
+use Rattle.ocm_journal.specs.LiveAreas.{HasLive, LiveArea, has_room, written_in}
 use Rattle.ocm_journal.proofs.Moving.{weaker}
 use Rattle.ocm_law_lean.proofs.Answered.{lean-goes_on, lean-lean}
 use Rattle.ocm_plan.specs.Plans.{Plan}
-use Rattle.ocm_rules.specs.History.{IsLegal}
+use Rattle.ocm_rules.specs.History.{IsLegal, kept}
 use Rattle.ocm_rules.specs.Lean.{lean}
 use Rattle.ocm_law_sessions.specs.Readings.{opened}
 use Rattle.ocm_law_sessions.specs.Sessions.{heard}
-use Rattle.ocm_law_sessions.specs.Written.{IsSpelled, records_of}
+use Rattle.ocm_law_sessions.specs.Written.{IsSpelled, record_of, records_of}
 use Rattle.ocm_law_sessions.proofs.Appending.{change-opens, record-same}
 use Rattle.ocm_law_sessions.proofs.Entries.{answered-kept, answered-legal}
 use Rattle.ocm_law_sessions.proofs.Opening.{opened-answered}
@@ -33,7 +36,50 @@ use Rattle.ocm_law_sessions.proofs.Rereading.{lean-opens}
 use Rattle.ocm_law_sessions.proofs.Replying.{kept-changed}
 use Rattle.ocm_law_sessions.proofs.Spelling.{lean-spelled}
 use Rattle.ocm_store.specs.Acts.{IsWithOrWithout}
+use Rattle.ocm_store.specs.Growing.{OpensLive, grown_by, switches_to_second}
 use Rattle.ocm_store.specs.Stores.{IsWritten}
+
+-- ---- room
+
+module _ {D : Type 0} (disk : Ghosts D) where
+  -- a record that does not pass the end of the live area has room there
+  room-there : (host : List ℕ) (live : LiveArea) (old : Journal D disk) (r : List ℕ) → HasLive disk host live old → (IsFullFor old (length r) → ⊥) → has_room (area_of old) live r ≡ true
+  room-there host live old r h room = by_test (has_room (area_of old) live r) refl
+    where
+      by_test : (b : Bool) → has_room (area_of old) live r ≡ b → has_room (area_of old) live r ≡ true
+      by_test true is = is
+      by_test false is =
+          let gate = h.holds.gate in
+          let test : nat_le (2 + blocks_size live.records + (5 + length r)) old.area ≡ false = is in
+          let over : old.start + old.area < old.gate + length r + 6 = grind (arith, nat_tests) in
+          absurd (room over)
+
+  -- and one that does has none
+  full-there : (host : List ℕ) (live : LiveArea) (old : Journal D disk) (r : List ℕ) → HasLive disk host live old → IsFullFor old (length r) → has_room (area_of old) live r ≡ false
+  full-there host live old r h full = by_test (has_room (area_of old) live r) refl
+    where
+      by_test : (b : Bool) → has_room (area_of old) live r ≡ b → has_room (area_of old) live r ≡ false
+      by_test false is = is
+      by_test true is =
+          let gate = h.holds.gate in
+          let over : old.start + old.area < old.gate + length r + 6 = full in
+          let test : nat_le (2 + blocks_size live.records + (5 + length r)) old.area ≡ true = is in
+          absurd (grind (arith, nat_tests))
+
+  -- the records of a live area open to what the journal opens to
+  pub live-opens : (host : List ℕ) (g : List Entry) (old : Journal D disk) (live : LiveArea) → HasLive disk host live old → (w : IsWritten disk host g old) → opened host live.form live.records ≡ Some w.list
+  live-opens host g old live h w =
+      let one = one_image (disk.seen (disk_of old)) host host (area_of old) (area_of old) (form_of old) (form_of old) w.records live.records w.holds.image h.holds.image in
+      ap (λ f. opened host f live.records) (sym h.form) ∙ ap (λ rs. opened host (form_of old) rs) (sym one.3) ∙ w.opens
+
+  -- what stands on a disk is told in other words
+  pub after-map : (left : ℕ) (b other : Bool) (P Q R S : List ℕ → Type 0) (now : D) → b ≡ other → ((c : List ℕ) → P c → Q c) → ((c : List ℕ) → R c → S c) → AfterFault disk left b P R now → AfterFault disk left other Q S now
+  after-map left b other P Q R S now same before after a = record {
+    few = λ le. (let h = a.few le in (before _ h.0, before _ h.1, before _ h.2));
+    three = λ is. (let h = a.three is in (after _ h.0, before _ h.1));
+    three_torn_before = λ is no. before _ (a.three_torn_before is (same ∙ no));
+    three_torn_after = λ is yes. after _ (a.three_torn_after is (same ∙ yes));
+  }
 
 module _ {D : Type 0} (disk : Ghosts D) (history : History) (g : List Entry) (ask : Ask) (plan : Plan) (form : ℕ) (draft : Draft) (change : IsChange history g ask plan form draft) where
   -- what was written before leaves the history without the change
@@ -113,6 +159,88 @@ module _ {D : Type 0} (disk : Ghosts D) (history : History) (g : List Entry) (as
       let test : nat_le (2 + blocks_size (records_of (lean (home_of history) (with_change history g ask)))) area ≡ true = fits in
       grind (arith, nat_tests)
 
+  -- ---- the live area
+
+  -- the record that is written of a change
+  record-is : (live : LiveArea) → form ≡ live.form → draft.written ≡ record_of live.form (kept (home_of history) g) (heard (home_of history) g ask)
+  record-is live same = change.drafted.text ∙ ap (λ f. record_of f (kept (home_of history) g) (heard (home_of history) g ask)) same
+
+  has-room : (old : Journal D disk) (live : LiveArea) → form_of old ≡ form → HasLive disk (home_of history) live old → (IsFullFor old (length draft.written) → ⊥)
+      → has_room (area_of old) live (record_of live.form (kept (home_of history) g) (heard (home_of history) g ask)) ≡ true
+  has-room old live own h room = ap (has_room (area_of old) live) (sym (record-is live (sym own ∙ h.form))) ∙ room-there disk (home_of history) live old draft.written h room
+
+  no-room : (old : Journal D disk) (live : LiveArea) → form_of old ≡ form → HasLive disk (home_of history) live old → IsFullFor old (length draft.written)
+      → has_room (area_of old) live (record_of live.form (kept (home_of history) g) (heard (home_of history) g ask)) ≡ false
+  no-room old live own h full = ap (has_room (area_of old) live) (sym (record-is live (sym own ∙ h.form))) ∙ full-there disk (home_of history) live old draft.written h full
+
+  -- behind the others
+  pub grown-behind : (old new : Journal D disk) (live : LiveArea) → form_of old ≡ form → HasLive disk (home_of history) live old → SameShape old new → (IsFullFor old (length draft.written) → ⊥)
+      → StandsFor disk (home_of history) (live.records ++ draft.written ∷ []) new → HasLive disk (home_of history) (grown_by (home_of history) (area_of old) g ask live) new
+  grown-behind old new live own h shape room holds =
+      subst (λ b. HasLive disk (home_of history) (written_in b live (record_of live.form (kept (home_of history) g) (heard (home_of history) g ask)) (records_of (lean (home_of history) (heard (home_of history) g ask ∷ g)))) new)
+      (sym (has-room old live own h room))
+      (record {
+        first = ap (λ s. s == 512) shape.2 ∙ h.first;
+        form = shape.1 ∙ h.form;
+        holds = subst (λ b. StandsFor disk (home_of history) (live.records ++ b ∷ []) new) (record-is live (sym own ∙ h.form)) holds;
+      })
+
+  -- into the other area
+  pub grown-anew : (old new : Journal D disk) (live : LiveArea) → form_of old ≡ form → HasLive disk (home_of history) live old → IsFullFor old (length draft.written)
+      → HasLive disk (home_of history) (written_in false live [] (records_of (lean (home_of history) (heard (home_of history) g ask ∷ g)))) new → HasLive disk (home_of history) (grown_by (home_of history) (area_of old) g ask live) new
+  grown-anew old new live own h full anew =
+      subst (λ b. HasLive disk (home_of history) (written_in b live (record_of live.form (kept (home_of history) g) (heard (home_of history) g ask)) (records_of (lean (home_of history) (heard (home_of history) g ask ∷ g)))) new)
+      (sym (no-room old live own h full)) anew
+
+  -- an image of what was there
+  pub before-live : (old : Journal D disk) (live : LiveArea) (h : HasLive disk (home_of history) live old) (w : IsWritten disk (home_of history) g old) (c : List ℕ)
+      → IsImageWith (first_is_live old) (home_of history) (area_of old) (form_of old) live.records c → OpensLive (home_of history) (area_of old) g live c
+  before-live old live h w c image =
+      (subst (λ (z : Bool × ℕ). IsImageWith z.0 (home_of history) (area_of old) z.1 live.records c) (λ i. (h.first i, h.form i)) image, (w.list, live-opens disk (home_of history) g old live h w, w.same))
+
+  -- and with the record behind it
+  pub behind-live : (old : Journal D disk) (live : LiveArea) → form_of old ≡ form → (h : HasLive disk (home_of history) live old) (w : IsWritten disk (home_of history) g old) → (IsFullFor old (length draft.written) → ⊥) → (c : List ℕ)
+      → IsImageWith (first_is_live old) (home_of history) (area_of old) (form_of old) (live.records ++ draft.written ∷ []) c
+      → OpensLive (home_of history) (area_of old) (heard (home_of history) g ask ∷ g) (grown_by (home_of history) (area_of old) g ask live) c
+  behind-live old live own h w room c image =
+      let r = record-is live (sym own ∙ h.form) in
+      let opens = ap (λ f. opened (home_of history) f live.records) (sym own ∙ h.form) ∙ live-opens disk (home_of history) g old live h w in
+      let grown_opens = ap (λ f. opened (home_of history) f (live.records ++ record_of live.form (kept (home_of history) g) (heard (home_of history) g ask) ∷ [])) (sym (sym own ∙ h.form))
+      ∙ ap (λ b. opened (home_of history) form (live.records ++ b ∷ [])) (sym r) ∙ appended-opens live.records w.list opens w.same w.spelled in
+      let grown_image = subst (λ (z : Bool × ℕ × List ℕ). IsImageWith z.0 (home_of history) (area_of old) z.1 (live.records ++ z.2 ∷ []) c) (λ i. (h.first i, h.form i, r i)) image in
+      subst (λ b. OpensLive (home_of history) (area_of old) (heard (home_of history) g ask ∷ g) (written_in b live (record_of live.form (kept (home_of history) g) (heard (home_of history) g ask)) (records_of (lean (home_of history) (heard (home_of history) g ask ∷ g)))) c)
+      (sym (has-room old live own h room))
+      (grown_image, (heard (home_of history) g ask ∷ w.list, grown_opens, lean-goes_on (home_of history) (heard (home_of history) g ask) w.list g w.same))
+
+  -- and of all that is written anew
+  pub anew-live : (old : Journal D disk) (live : LiveArea) (records : List (List ℕ)) → records ≡ records_of (lean (home_of history) (with_change history g ask)) → HasLive disk (home_of history) live old → (c : List ℕ)
+      → IsImageWith (not (first_is_live old)) (home_of history) (area_of old) 2 records c
+      → OpensLive (home_of history) (area_of old) (heard (home_of history) g ask ∷ g) (written_in false live [] (records_of (lean (home_of history) (heard (home_of history) g ask ∷ g)))) c
+  anew-live old live records are h c image = (
+    subst (λ (z : Bool × List (List ℕ)). IsImageWith (not z.0) (home_of history) (area_of old) 2 z.1 c) (λ i. (h.first i, are i)) image,
+    (lean (home_of history) (with_change history g ask), renewed-opens, lean-lean (home_of history) (with_change history g ask) grown-legal),
+  )
+
+  -- what stands on the disk where its calls ended within a change that goes behind the others
+  pub behind-after_fault : (old : Journal D disk) (now : D) (live : LiveArea) (left : ℕ) → form_of old ≡ form → HasLive disk (home_of history) live old → IsWritten disk (home_of history) g old → (IsFullFor old (length draft.written) → ⊥)
+      → AfterFault disk left false (IsImageWith (first_is_live old) (home_of history) (area_of old) (form_of old) live.records)
+      (IsImageWith (first_is_live old) (home_of history) (area_of old) (form_of old) (live.records ++ draft.written ∷ [])) now
+      → AfterFault disk left (switches_to_second (home_of history) (area_of old) g ask live) (OpensLive (home_of history) (area_of old) g live)
+      (OpensLive (home_of history) (area_of old) (heard (home_of history) g ask ∷ g) (grown_by (home_of history) (area_of old) g ask live)) now
+  behind-after_fault old now live left own h w room after =
+      after-map disk left _ _ _ _ _ _ now (sym (ap (λ b. not b && live.first) (has-room old live own h room))) (before-live old live h w) (behind-live old live own h w room) after
+
+  -- and one that is written anew
+  pub anew-after_fault : (old : Journal D disk) (now : D) (live : LiveArea) (left : ℕ) → form_of old ≡ form → HasLive disk (home_of history) live old → IsFullFor old (length draft.written)
+      → AfterFault disk left live.first (OpensLive (home_of history) (area_of old) g live)
+      (OpensLive (home_of history) (area_of old) (heard (home_of history) g ask ∷ g) (written_in false live [] (records_of (lean (home_of history) (heard (home_of history) g ask ∷ g))))) now
+      → AfterFault disk left (switches_to_second (home_of history) (area_of old) g ask live) (OpensLive (home_of history) (area_of old) g live)
+      (OpensLive (home_of history) (area_of old) (heard (home_of history) g ask ∷ g) (grown_by (home_of history) (area_of old) g ask live)) now
+  anew-after_fault old now live left own h full after =
+      subst (λ b. AfterFault disk left (not b && live.first) (OpensLive (home_of history) (area_of old) g live)
+      (OpensLive (home_of history) (area_of old) (heard (home_of history) g ask ∷ g) (written_in b live (record_of live.form (kept (home_of history) g) (heard (home_of history) g ask)) (records_of (lean (home_of history) (heard (home_of history) g ask ∷ g))))) now)
+      (sym (no-room old live own h full)) after
+
   -- ---- a crash within a call
 
   pub appended-moments : (old new : Journal D disk) (bytes : List ℕ) → bytes ≡ draft.written → form_of old ≡ form → (w : IsWritten disk (home_of history) g old)
@@ -171,3 +299,13 @@ pub failed-renew : {X : Type 0} {P : Type 0} (fault : RenewFault) (count : ℕ) 
 failed-renew fault count is (inl wrong) = absurd (cc)
 failed-renew fault count is (inr (inl wrong)) = absurd (cc)
 failed-renew fault count is (inr (inr both)) = let wrong : false ≡ true = both.0 in absurd (cc)
+
+-- ---- two parts of a result
+
+pub on-both : {T E P Q R : Type 0} (r : Result T E) → (P → Q → R) → OnOk r P → OnOk r Q → OnOk r R
+on-both (Ok x) both p q = both p q
+on-both (Err fault) both p q = tt
+
+pub err-both : {T E : Type 0} (r : Result T E) (P Q R : E → Type 0) → ((fault : E) → P fault → Q fault → R fault) → IfErr r P → IfErr r Q → IfErr r R
+err-both (Ok x) P Q R both p q = tt
+err-both (Err fault) P Q R both p q = both fault p q

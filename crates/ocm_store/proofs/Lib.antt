@@ -3,3 +3,5 @@ pub mod Journaling
 pub mod Exits
 pub mod Room
 pub mod Opened
+pub mod Runs
+mod Ended

@@ -1,5 +1,5 @@
 -- What a crash leaves of a change, and what one call of a store does.
-use Rattle.std.specs.Prelude.{◌≡◌, ◌⊎◌, ◌<◌, ℕ, ◌+◌, List, ◌∷◌, ◌++◌, true, false, Some, None}
+use Rattle.std.specs.Prelude.{◌≡◌, ◌⊎◌, ◌<◌, ◌&&◌, ℕ, ◌+◌, List, ◌∷◌, ◌++◌, not, true, false, Some, None}
 use Rattle.ocm_base.specs.Outside.{raised}
 use Rattle.ocm_disk.specs.Disk.{LeavesOnly}
 use Rattle.ocm_disk.specs.declared.disk.Disk.{Ghosts}
@@ -7,13 +7,16 @@ use Rattle.ocm_entry.specs.declared.asks.Ask.{Ask}
 use Rattle.ocm_entry.specs.declared.entries.Entry.{Entry}
 use Rattle.ocm_entry.specs.declared.replies.Reply.{Reply}
 use Rattle.ocm_entry.specs.declared.replies.Reply.TheVariants as replies
+use Rattle.ocm_journal.specs.AfterFaults.{AfterFault}
+use Rattle.ocm_journal.specs.LiveAreas.{LiveArea}
 use Rattle.ocm_rules.specs.History.{IsLegal, is_failure}
 use Rattle.ocm_rules.specs.Lean.{lean}
 use Rattle.ocm_law_sessions.specs.Sessions.{count_of, heard, would_change}
 use Rattle.ocm_history.specs.Changes.{told}
 use Rattle.ocm_store.specs.declared.stores.Store.{Store}
+use Rattle.ocm_store.specs.Growing.{HasLiveArea, OpensLive, grown_by, live_after, switches_to_second}
 use Rattle.ocm_store.specs.Opening.{IsImageIn}
-use Rattle.ocm_store.specs.Stores.{IsLegalUnder, LeavesNext, Stands, disk_of, host_of, terms_of}
+use Rattle.ocm_store.specs.Stores.{IsLegalUnder, LeavesNext, Stands, area_of, disk_of, fault_of, host_of, terms_of}
 
 -- an image with areas of this size that opens to a list with the lean list of a history, or of that with an ask and its answer
 abbrev pub IsWithOrWithout : List ℕ → ℕ → List Entry → Ask → List ℕ → Type 0
@@ -35,6 +38,21 @@ pub record StandsLegally {D : Type 0} (disk : Ghosts D) (store : Store D disk) (
   pub stands : Stands disk store k h
   pub legal : IsLegalUnder (terms_of store) k h
 
+-- what a call makes of the journal of a store, and of its disk where it tells a fault
+pub record Grows {D : Type 0} (disk : Ghosts D) (old new : Store D disk) (ask : Ask) (reply : Reply) : Type 0 where
+  -- what is made is written behind the records of the live area where it has room there, and only where it has none into the other
+  -- area, with all that is kept; what is not made leaves the live area as it is
+  pub live : disk.tells → (k h : List Entry) (live : LiveArea) → StandsLegally disk old k h → HasLiveArea disk (host_of old) live old → count_of reply ≡ None
+      → HasLiveArea disk (host_of old) (live_after (would_change (host_of old) (h ++ k) ask && not (is_failure reply)) (host_of old) (area_of old) (h ++ k) ask live) new
+  -- where the calls of its disk ended within a change, the disk has what was before it, or what it was to make
+  pub after_fault : disk.tells → (k h : List Entry) (live : LiveArea) (count left : ℕ) → StandsLegally disk old k h → HasLiveArea disk (host_of old) live old → reply ≡ replies.DiskFault count
+      → disk.passes (disk_of old) left → disk.burnt (disk_of old) left
+      → AfterFault disk left (switches_to_second (host_of old) (area_of old) (h ++ k) ask live)
+      (OpensLive (host_of old) (area_of old) (h ++ k) live)
+      (OpensLive (host_of old) (area_of old) (heard (host_of old) (h ++ k) ask ∷ (h ++ k)) (grown_by (host_of old) (area_of old) (h ++ k) ask live)) (disk_of new)
+  -- once it has told a fault it leaves the disk alone
+  pub stopped : (count : ℕ) → fault_of old ≡ Some count → disk_of new ≡ disk_of old
+
 -- what a call does that answers an ask with a reply
 pub record Acts {D : Type 0} (disk : Ghosts D) (old new : Store D disk) (ask : Ask) (reply : Reply) : Type 0 where
   pub terms : terms_of new ≡ terms_of old
@@ -55,3 +73,5 @@ pub record Acts {D : Type 0} (disk : Ghosts D) (old new : Store D disk) (ask : A
   pub fewer : (k h : List Entry) (left : ℕ) → StandsLegally disk old k h → would_change (host_of old) (h ++ k) ask ≡ true → left < 4
       → disk.burnt (disk_of old) left → is_failure reply ≡ true
   pub passes : (left : ℕ) → disk.passes (disk_of old) (left + 4) → count_of reply ≡ None
+  -- what becomes of its journal
+  pub journal : Grows disk old new ask reply

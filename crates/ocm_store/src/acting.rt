@@ -24,7 +24,7 @@ use ocm_entry::{Ask, Object, Reply};
 use ocm_history::{Draft, let_go};
 
 impl<D: Disk> Object for Store<D> {
-    ghost use Rattle.ocm_store.specs.Acts.{Spends, SpendsNone, StandsLegally};
+    ghost use Rattle.ocm_store.specs.Acts.{Grows, Spends, SpendsNone, StandsLegally};
     ghost use Rattle.ocm_store.specs.Fitting.{session-fits};
     ghost use Rattle.ocm_store.specs.Stores.{IsLegalUnder, LeavesNext, Stands, disk_of, host_of, terms_of};
 
@@ -60,6 +60,11 @@ impl<D: Disk> Object for Store<D> {
         ensures fewer { (k h : List Entry) (left : ℕ) → StandsLegally ⟦<D as Disk>⟧ self.old k h → would_change (host_of self.old) (h ++ k) ask ≡ true → left < 4
             → D.burnt (disk_of self.old) left → is_failure result ≡ true }
         ensures passes { (left : ℕ) → D.passes (disk_of self.old) (left + 4) → count_of result ≡ None }
+
+        // A change is appended to the live area of the journal where its record has room there, and only where it has none is
+        // all that is kept written anew into the other area. Where the disk's calls ended within it, three of the four decide
+        // what a crash keeps.
+        ensures journal { Grows ⟦<D as Disk>⟧ self.old self.new ask result }
     {
         let reply = self.reply(&ask);
         drop(ask);

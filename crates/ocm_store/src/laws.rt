@@ -7,7 +7,10 @@ ghost use Rattle.ocm_journal.specs.Openings.{StaysAsItOpens};
 ghost use Rattle.ocm_rules.specs.History.{IsLegal, kept};
 ghost use Rattle.ocm_law_sessions.specs.Sessions.{IsSession};
 ghost use Rattle.ocm_store.specs.declared.load_faults.LoadFault.{LoadFault};
+ghost use Rattle.ocm_store.specs.Courses.{CoursesKeep, CoursesLeave, CoursesStand, EndedStaysEnded, MomentsHavePlaces};
 ghost use Rattle.ocm_store.specs.Opening.{IsImageIn, IsOfArea, OpensAlike, OpensTo, loading};
+
+use ocm_disk::Disk;
 
 /// A disk opens to one list at most.
 pub fn a_disk_opens_to_one_list()
@@ -38,4 +41,32 @@ pub fn an_image_has_one_area()
     ensures area { (host : List ℕ) (area other form shape : ℕ) (records others : List (List ℕ)) (bytes : List ℕ) → IsImage host area form records bytes → IsImage host other shape others bytes → area ≡ other }
     ensures list { (host : List ℕ) (area other : ℕ) (k next : List Entry) (bytes : List ℕ) → IsImageIn host area k bytes → IsImageIn host other next bytes → (area ≡ other) × (k ≡ next) }
     ensures loaded { (host : List ℕ) (new area other : ℕ) (k : List Entry) (bytes : List ℕ) → IsOfArea host new area bytes → IsImageIn host other k bytes → area ≡ other }
+{}
+
+/// What calls make of a store, one after another, stands for all of them. They are legal, and the terms stay.
+pub fn a_course_stands<D: Disk>()
+    ensures { CoursesStand ⟦<D as Disk>⟧ }
+{}
+
+/// A crash at any moment of several calls, during one or between two, leaves what opens to a list that may follow all
+/// calls before one of them, while that one is in flight, or that may follow what stood before the first.
+pub fn a_crash_in_a_course_leaves_what_may_follow<D: Disk>()
+    ensures { CoursesLeave ⟦<D as Disk>⟧ }
+{}
+
+/// Since a call was answered, a crash at any moment of the later calls leaves what may follow that call, or a later one:
+/// nothing that was answered is lost.
+pub fn a_crash_in_a_course_loses_nothing_answered<D: Disk>()
+    ensures { CoursesKeep ⟦<D as Disk>⟧ }
+{}
+
+/// What a crash leaves at some moment of several calls opens to a list that may follow the calls up to one place, while the
+/// ask of the next one was in flight, where there is a next one.
+pub fn a_crash_in_a_course_has_a_place()
+    ensures { MomentsHavePlaces }
+{}
+
+/// A share that had ended before some calls has ended in what a disk opens to after a crash at any moment of them.
+pub fn what_has_ended_stays_ended_at_every_moment()
+    ensures { EndedStaysEnded }
 {}

@@ -4,6 +4,7 @@ ghost use Rattle.ocm_disk.specs.Disk.{LeavesOnly};
 ghost use Rattle.ocm_entry.specs.declared.entries.Entry.{Entry};
 ghost use Rattle.ocm_image.specs.Layout.{contents};
 ghost use Rattle.ocm_journal.specs.Journals as journals;
+ghost use Rattle.ocm_journal.specs.LiveAreas.{BeginsWith, LiveArea};
 ghost use Rattle.ocm_journal.specs.Openings.{StaysAsItOpens, new_area};
 ghost use Rattle.ocm_rules.specs.History.{kept};
 ghost use Rattle.ocm_rules.specs.Lean.{count};
@@ -11,6 +12,7 @@ ghost use Rattle.ocm_rules.specs.Messages.{as_sent, out};
 ghost use Rattle.ocm_rules.specs.Numbers.{at_number};
 ghost use Rattle.ocm_rules.specs.Shares.{moment};
 ghost use Rattle.ocm_law_sessions.specs.Readings.{opened, refused_at};
+ghost use Rattle.ocm_store.specs.Growing.{HasLiveArea};
 ghost use Rattle.ocm_store.specs.Opening.{IsCounted, IsNoDiskFault, IsOfArea, IsRefused, IsSaidBy, OpensTo, loading};
 ghost use Rattle.ocm_history.specs.Replays.{IsMemoryOf};
 ghost use Rattle.ocm_store.specs.Stores.{IsLegalUnder, Stands, area_of, disk_of, fault_of, host_of, terms_of};
@@ -60,6 +62,14 @@ impl<D: Disk> Store<D> {
             (λ c. D.may_leave disk c ⊎ StaysAsItOpens host (new_area limit) (D.seen disk) c)) }
         ensures moments_err { D.tells → IfErr result (λ failed. LeavesOnly D.moment D.left_since disk failed.0
             (λ c. D.may_leave disk c ⊎ StaysAsItOpens host (new_area limit) (D.seen disk) c)) }
+
+        // Wherever the calls of its disk end behind the first one, a crash leaves the second of these alone. So it does at
+        // each moment from the success of the first sync on, since no call tells how many are left.
+        ensures synced_ok { D.tells → D.passes disk 1 → IfOk result (λ store. (c : List ℕ) → D.may_leave (disk_of store) c → StaysAsItOpens host (new_area limit) (D.seen disk) c) }
+        ensures synced_err { D.tells → D.passes disk 1 → IfErr result (λ failed. (c : List ℕ) → D.may_leave failed.0 c → StaysAsItOpens host (new_area limit) (D.seen disk) c) }
+
+        // Of an image its live area stays the live one, and that of a new journal is the first, without records.
+        ensures begins { D.tells → IfOk result (λ store. (live : LiveArea) → BeginsWith host (new_area limit) (D.seen disk) live → HasLiveArea ⟦<D as Disk>⟧ host live store) }
     {
         match Journal::load(alloc, disk, host.text().as_str().as_bytes(), limit) {
             Ok((journal, records)) => Store::replay(alloc, host, journal, &records),
@@ -137,6 +147,7 @@ impl Store<MemDisk> {
         ensures terms { terms_of self.new ≡ terms_of self.old }
         ensures fault { fault_of self.new ≡ fault_of self.old }
         ensures stands { (k h : List Entry) → Stands ⟦<MemDisk as Disk>⟧ self.old k h → Stands ⟦<MemDisk as Disk>⟧ self.new k h }
+        ensures live { (host : List ℕ) (live : LiveArea) → HasLiveArea ⟦<MemDisk as Disk>⟧ host live self.old → HasLiveArea ⟦<MemDisk as Disk>⟧ host live self.new }
     {
         self.journal.fuse(calls);
     }

@@ -1,16 +1,21 @@
 //! How a change is written into a journal.
-ghost use Rattle.std.specs.Prelude.{◌≡◌, ◌<◌, ◌≤◌, ◌+◌, ◌∷◌, ℕ, List, length, false, IsErr, IsErrOf, IfErr, OnOk};
+ghost use Rattle.std.specs.Prelude.{◌≡◌, ◌<◌, ◌≤◌, ◌+◌, ◌∷◌, [], ℕ, List, length, not, false, IsErr, IsErrOf, IfErr, OnOk};
 ghost use Rattle.ocm_disk.specs.Disk.{LeavesOnly};
 ghost use Rattle.ocm_entry.specs.declared.asks.Ask.{Ask};
 ghost use Rattle.ocm_entry.specs.declared.entries.Entry.{Entry};
 ghost use Rattle.ocm_core.specs.Standing.{IsPlanned};
 ghost use Rattle.ocm_image.specs.Layout.{AreRecords, blocks_size};
-ghost use Rattle.ocm_journal.specs.Journals.{HasRoom, IsOldOrNew, StandsFor, area_of, disk_of, form_of};
+ghost use Rattle.ocm_journal.specs.AfterFaults.{AfterFault};
+ghost use Rattle.ocm_journal.specs.Journals.{HasRoom, IsImageWith, IsOldOrNew, IsStopped, StandsFor, area_of, disk_of, first_is_live, form_of};
+ghost use Rattle.ocm_journal.specs.LiveAreas.{HasLive, LiveArea, written_in};
 ghost use Rattle.ocm_law_sessions.specs.Sessions.{heard};
+ghost use Rattle.ocm_law_sessions.specs.Written.{records_of};
+ghost use Rattle.ocm_rules.specs.Lean.{lean};
 ghost use Rattle.ocm_history_kept.specs.declared.drafts.Draft.{Draft};
 ghost use Rattle.ocm_history.specs.Changes.{FitsInto, IsChange};
 ghost use Rattle.ocm_store.specs.Acts.{IsWithOrWithout, Spends, SpendsNone};
 ghost use Rattle.ocm_store.specs.Faults.{HasCount, IsNoDiskFault, stops};
+ghost use Rattle.ocm_store.specs.Growing.{OpensLive, grown_by, switches_to_second};
 ghost use Rattle.ocm_history.specs.Histories.{home_of};
 ghost use Rattle.ocm_store.specs.Stores.{IsWritten};
 
@@ -57,6 +62,18 @@ pub(crate) fn write_change<D: Disk>(
     ensures not_made { IfErr result (λ fault. IsNoDiskFault fault → SpendsNone ⟦<D as Disk>⟧ (disk_of journal.old) (disk_of journal.new)) }
     ensures fewer { (left : ℕ) → left < 4 → D.burnt (disk_of journal.old) left → IsErr result }
     ensures passes { (calls : ℕ) → D.passes (disk_of journal.old) (calls + 4) → IfErr result IsNoDiskFault }
+
+    // It goes behind the records of the live area where it has room there, and only where it has none into the other area.
+    ensures live { D.tells → (g : List Entry) (ask : Ask) (live : LiveArea) → IsChange history.now g ask planned.now (form_of journal.old) draft.now
+        → let host = home_of history.now in HasLive ⟦<D as Disk>⟧ host live journal.old → OnOk result (HasLive ⟦<D as Disk>⟧ host (grown_by host (area_of journal.old) g ask live) journal.new) }
+    ensures still { D.tells → (label : List ℕ) (live : LiveArea) → HasLive ⟦<D as Disk>⟧ label live journal.old → IfErr result (λ fault. IsNoDiskFault fault → HasLive ⟦<D as Disk>⟧ label live journal.new) }
+
+    // What stands on the disk where its calls ended within the change.
+    ensures after_fault { D.tells → (g : List Entry) (ask : Ask) (live : LiveArea) (left : ℕ) → IsChange history.now g ask planned.now (form_of journal.old) draft.now
+        → let host = home_of history.now in IsWritten ⟦<D as Disk>⟧ host g journal.old → HasLive ⟦<D as Disk>⟧ host live journal.old → IsStopped journal.new
+        → D.passes (disk_of journal.old) left → D.burnt (disk_of journal.old) left
+        → AfterFault ⟦<D as Disk>⟧ left (switches_to_second host (area_of journal.old) g ask live) (OpensLive host (area_of journal.old) g live)
+        (OpensLive host (area_of journal.old) (heard host g ask ∷ g) (grown_by host (area_of journal.old) g ask live)) (disk_of journal.new) }
 {
     match journal.append(draft.written.as_slice()) {
         Ok(()) => Ok(()),
@@ -90,6 +107,14 @@ fn write_anew<D: Disk>(
     ensures not_made { IfErr result (λ fault. IsNoDiskFault fault → SpendsNone ⟦<D as Disk>⟧ (disk_of journal.old) (disk_of journal.new)) }
     ensures fewer { (left : ℕ) → left < 4 → D.burnt (disk_of journal.old) left → IsErr result }
     ensures passes { (calls : ℕ) → D.passes (disk_of journal.old) (calls + 4) → IfErr result IsNoDiskFault }
+    ensures live { D.tells → (g : List Entry) (ask : Ask) (form : ℕ) (draft : Draft) (live : LiveArea) → IsChange history.now g ask planned.now form draft → newest.now ≡ draft.newest
+        → let host = home_of history.now in HasLive ⟦<D as Disk>⟧ host live journal.old → OnOk result (HasLive ⟦<D as Disk>⟧ host (written_in false live [] (records_of (lean host (heard host g ask ∷ g)))) journal.new) }
+    ensures still { D.tells → (label : List ℕ) (live : LiveArea) → HasLive ⟦<D as Disk>⟧ label live journal.old → IfErr result (λ fault. IsNoDiskFault fault → HasLive ⟦<D as Disk>⟧ label live journal.new) }
+    ensures after_fault { D.tells → (g : List Entry) (ask : Ask) (form : ℕ) (draft : Draft) (live : LiveArea) (left : ℕ) → IsChange history.now g ask planned.now form draft → newest.now ≡ draft.newest
+        → let host = home_of history.now in IsWritten ⟦<D as Disk>⟧ host g journal.old → HasLive ⟦<D as Disk>⟧ host live journal.old → IsStopped journal.new
+        → D.passes (disk_of journal.old) left → D.burnt (disk_of journal.old) left
+        → AfterFault ⟦<D as Disk>⟧ left live.first (OpensLive host (area_of journal.old) g live)
+        (OpensLive host (area_of journal.old) (heard host g ask ∷ g) (written_in false live [] (records_of (lean host (heard host g ask ∷ g))))) (disk_of journal.new) }
 {
     match history.lean_records(planned, newest) {
         Ok(records) => {
@@ -121,6 +146,12 @@ fn put_in_place<D: Disk>(journal: &mut Journal<D>, records: &List<Bytes>) -> Res
     ensures not_made { IfErr result (λ fault. IsNoDiskFault fault → SpendsNone ⟦<D as Disk>⟧ (disk_of journal.old) (disk_of journal.new)) }
     ensures fewer { (left : ℕ) → left < 4 → D.burnt (disk_of journal.old) left → IsErr result }
     ensures passes { (calls : ℕ) → D.passes (disk_of journal.old) (calls + 4) → IfErr result IsNoDiskFault }
+    ensures live { OnOk result (first_is_live journal.new ≡ not (first_is_live journal.old)) }
+    ensures still { IfErr result (λ fault. IsNoDiskFault fault → first_is_live journal.new ≡ first_is_live journal.old) }
+    ensures after_fault { D.tells → (label : List ℕ) (before : List (List ℕ)) (left : ℕ) → StandsFor ⟦<D as Disk>⟧ label before journal.old → IsStopped journal.new
+        → D.passes (disk_of journal.old) left → D.burnt (disk_of journal.old) left
+        → AfterFault ⟦<D as Disk>⟧ left (first_is_live journal.old) (IsImageWith (first_is_live journal.old) label (area_of journal.old) (form_of journal.old) before)
+        (IsImageWith (not (first_is_live journal.old)) label (area_of journal.old) 2 records.now) (disk_of journal.new) }
 {
     match journal.renew(records) {
         Ok(()) => Ok(()),

@@ -6,3 +6,4 @@ pub mod Tellings
 pub mod Sending
 pub mod Counted
 pub mod Outcomes
+pub mod Granting

@@ -1,4 +1,4 @@
-use Rattle.std.specs.Prelude.{◌≡◌, ◌≤◌, ℕ, All, List, length, Bool, true, false, ◌&&◌, is_some}
+use Rattle.std.specs.Prelude.{◌≡◌, ◌≤◌, ◌+◌, ◌-◌, ◌*◌, ◌^◌, ℕ, All, List, length, Bool, true, false, ◌&&◌, is_some}
 use Rattle.std.specs.Option.{option_map_or}
 use Rattle.std.specs.List.{list_all}
 use Rattle.ocm_entry.specs.Proper.{is_short}
@@ -6,6 +6,7 @@ use Rattle.ocm_types.specs.declared.letters.Offer.{Offer}
 use Rattle.ocm_entry.specs.declared.rows.User.{User}
 use Rattle.ocm_entry.specs.declared.rows.Request.{Request}
 use Rattle.ocm_incoming.specs.declared.rows.Record.{Record}
+use Rattle.ocm_chain.specs.Lists.{ProbeCounts}
 use Rattle.ocm_rules.specs.declared.rows.Told.{Told}
 use Rattle.ocm_rules.specs.declared.rows.ReceivedRow.{ReceivedRow}
 use Rattle.ocm_rules.specs.declared.rows.ShareRow.{ShareRow}
@@ -51,6 +52,12 @@ pub record IsServer (users : List User) (shares : List ShareRow) (records : List
   pub each_told : length told ≡ length records
   pub owned : list_all (is_owned users) shares ≡ true
   pub made : All (λ (origin : Origin). origin.number ≤ entries) origins
+
+-- what it costs to find and grant the holder of a secret, where there are so many shares, by what was counted before and after: at most b places of the index of secrets, where 2 to the power of b is at most one more than twice the shares, and at most one row
+pub record GrantCost (shares : ℕ) (old new : ProbeCounts) : Type 0 where
+  pub index : 2 ^ (new.index - old.index) ≤ 2 * shares + 1
+  pub rows : new.rows ≤ old.rows + 1
+  pub onward : (old.index ≤ new.index) × (old.rows ≤ new.rows)
 
 -- whether the offer of this number is for a user of this name
 abbrev pub is_offer_for : List Offer → List ℕ → ℕ → Bool

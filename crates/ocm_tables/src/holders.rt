@@ -6,16 +6,18 @@ ghost use Rattle.ocm_entry.specs.Proper.{is_short};
 ghost use Rattle.ocm_rules.specs.Numbers.{at_number};
 ghost use Rattle.ocm_rules.specs.Users.{user_of_key, is_taken};
 ghost use Rattle.ocm_rules.specs.Shares.{is_used};
-ghost use Rattle.ocm_rules.specs.Holders.{grant_of, guest_of};
-ghost use Rattle.ocm_rules.specs.Views.{grant_in, is_live_in, effective_in};
+ghost use Rattle.ocm_rules.specs.Views.{grant_in};
 ghost use Rattle.ocm_rules.specs.State.{view_in};
+ghost use Rattle.ocm_tables.specs.Tables.{GrantCost};
 
 use crate::tables::Tables;
 use ocm_base::NoMemory;
-use ocm_entry::{Grant, Place, User};
+use ocm_chain::Probes;
+use ocm_entry::{Grant, Place, Share, User};
 use ocm_path::Path;
 use ocm_types::{Name, Rights, Secret};
 use std::alloc::Global;
+use std::sync::ledger::Ledger;
 
 impl Tables {
     /// Whether a user has this name.
@@ -57,40 +59,39 @@ impl Tables {
     }
 
     /// What the holder of a secret may do: a user everything below the user's root, the guest of a
-    /// live share what it permits below the share's root, and anyone else nothing.
-    pub fn grant(&self, secret: &Secret) -> Result<Option<Grant>, NoMemory>
+    /// live share what it permits below the share's root, and anyone else nothing. What it costs to
+    /// look at shares is counted: a search of the index of secrets, and one row, at any depth.
+    pub fn grant<I: Ledger, R: Ledger>(
+        &self,
+        secret: &Secret,
+        probes: &mut Probes<I, R>,
+    ) -> Result<Option<Grant>, NoMemory>
         ensures grant { IfOk result (λ grant. grant ≡ grant_in (view_in self.now.state) secret.now) }
         ensures short { IfOk result (λ grant. IfSome grant (λ some. IsTrue (is_short some.root.path))) }
+        ensures cost { GrantCost (length self.now.state.shares) probes.old probes.new }
     {
         if let Some(user) = self.users.with_key(secret) {
             return Ok(Some(account_grant(self.alloc, user)));
         }
-        match self.shares.find(secret) {
-            Some(id) => self.guest_grant(id),
+        match self.shares.guest_counted(secret, probes) {
+            Some((share, rights)) => Ok(Some(guest_grant(share, rights)?)),
             None => Ok(None),
         }
     }
+}
 
-    /// What the guest of the share of this number may do.
-    fn guest_grant(&self, id: u32) -> Result<Option<Grant>, NoMemory>
-        ensures grant { IfOk result (λ grant. grant ≡ grant_of (is_live_in (view_in self.now.state)) (effective_in (view_in self.now.state)) (guest_of (view_in self.now.state).shares id)) }
-        ensures short { IfOk result (λ grant. IfSome grant (λ some. IsTrue (is_short some.root.path))) }
-    {
-        let Some(share) = self.share(id) else {
-            return Ok(None);
-        };
-        if !self.is_live(id) {
-            return Ok(None);
-        }
-        let path = share.root.copy()?;
-        Ok(Some(Grant {
-            root: Place {
-                user: share.owner,
-                path,
-            },
-            rights: self.effective(id),
-        }))
-    }
+/// What the guest of a live share may do: what the share lets its guest do, below the share's root.
+fn guest_grant(share: &Share, rights: Rights) -> Result<Grant, NoMemory>
+    ensures { IfOk result (λ grant. grant ≡ record { root = record { user = share.now.owner; path = share.now.root }; rights = rights }) }
+{
+    let path = share.root.copy()?;
+    Ok(Grant {
+        root: Place {
+            user: share.owner,
+            path,
+        },
+        rights,
+    })
 }
 
 /// What a user may do with the user's own files: everything.

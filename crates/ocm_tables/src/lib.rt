@@ -16,4 +16,5 @@ mod shares;
 mod tables;
 
 pub use changes::{Change, Outcome};
+pub use ocm_chain::Probes;
 pub use tables::Tables;

@@ -56,6 +56,22 @@ fn grown<R: Abort>(rt: &R, bytes: &Bytes) -> Bytes {
 }
 
 #[test]
+fn bytes_give_their_vector_back_where_nobody_shares_them(rt: HostRuntime) {
+    let bytes = bytes_of(&rt, rt.alloc(), SEVENS);
+    let copy = bytes.copy().expect(&rt, "no memory");
+    holds(&rt, "two share them", !is_given_back(bytes));
+    holds(&rt, "one is left", is_given_back(copy));
+}
+
+/// Whether bytes give their vector back; they are let go.
+fn is_given_back(bytes: Bytes) -> bool {
+    match bytes.into_vec() {
+        Ok(held) => held.as_slice() == SEVENS,
+        Err(_shared) => false,
+    }
+}
+
+#[test]
 fn clocks_stay_at_their_last_value(rt: HostRuntime) {
     let alloc = rt.alloc();
     gives(&rt, MemClock::new(calls(&rt, alloc, &[5, 9])), 5, 9);

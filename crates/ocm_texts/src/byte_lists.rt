@@ -1,4 +1,4 @@
-ghost use Rattle.std.specs.Prelude.{◌≡◌, [], ◌++◌, ◌==◌, length, refl, Some, IfOk, OnOk, OnErr, nat_eq};
+ghost use Rattle.std.specs.Prelude.{◌≡◌, [], ◌++◌, ◌==◌, length, refl, Some, IfOk, IfErr, OnOk, OnErr, nat_eq};
 ghost use Rattle.std.specs.Ordering.{nat_cmp};
 ghost use Rattle.std.specs.Cmp.Lexicographic.{pointwise, slice_cmp, nat_list_eq_equiv, nat_list_cmp_total, texts_ties, texts_po};
 ghost use Rattle.std.specs.Cmp.{partial_equiv_from_equiv};
@@ -51,28 +51,46 @@ impl Bytes {
     pub fn of(alloc: Global, s: &[u8]) -> Result<Bytes, NoMemory>
         ensures { IfOk result (λ b. b ≡ s.now) }
     {
-        let held = Held::sharing(Vec::from_slice(alloc, s)?);
+        let held = Held::sharing(Vec::from_slice(alloc, s)?)?;
         Ok(Bytes { held })
     }
 
-    /// The bytes of a vector, which are not copied.
+    /// The bytes of a vector, which are not copied. Takes no memory.
     pub fn from_vec(held: Vec<u8>) -> Bytes
         ensures { result ≡ held.items }
     {
         Bytes {
-            held: Held::sharing(held),
+            held: Held::Own(held),
         }
     }
 
-    /// The same bytes, held so that a copy shares them. Where there is no memory for that, a copy copies them.
-    pub fn shared(self) -> Bytes
-        ensures { result ≡ self }
+    /// The bytes as a vector, which are not copied. Where another value shares them, they come back. Takes no
+    /// memory.
+    pub fn into_vec(self) -> Result<Vec<u8>, Bytes>
+        ensures ok { IfOk result (λ held. held.items ≡ self) }
+        ensures err { IfErr result (λ bytes. bytes ≡ self) }
     {
         match self.held {
-            Held::Own(held) => Bytes {
-                held: Held::sharing(held),
+            Held::Own(held) => Ok(held),
+            Held::Shared(held) => match Arc::try_unwrap(held) {
+                Ok(held) => Ok(held),
+                Err(held) => Err(Bytes {
+                    held: Held::Shared(held),
+                }),
             },
-            held => Bytes { held },
+        }
+    }
+
+    /// The same bytes, held so that a copy shares them where they are many. Without memory for that they are let
+    /// go.
+    pub fn shared(self) -> Result<Bytes, NoMemory>
+        ensures { IfOk result (λ bytes. bytes ≡ self) }
+    {
+        match self.held {
+            Held::Own(held) => Ok(Bytes {
+                held: Held::sharing(held)?,
+            }),
+            held => Ok(Bytes { held }),
         }
     }
 
@@ -121,13 +139,13 @@ impl Bytes {
         Ok(())
     }
 
-    /// Another value with the same bytes. Where they are many, the copies share them.
+    /// Another value with the same bytes. Where they are many and shared, the copy shares them; else it has its own.
     pub fn copy(&self) -> Result<Bytes, NoMemory>
         ensures { IfOk result (λ b. b ≡ self.now) }
     {
         match &self.held {
             Held::Own(held) => Ok(Bytes {
-                held: Held::sharing(held.clone()?),
+                held: Held::sharing(held.clone()?)?,
             }),
             Held::Shared(held) => Ok(Bytes {
                 held: Held::Shared(Arc::try_clone(held)?),
@@ -137,19 +155,15 @@ impl Bytes {
 }
 
 impl Held {
-    /// These bytes, to be shared where they are many and there is memory for that. Room behind shared bytes is
-    /// given back.
-    fn sharing(mut held: Vec<u8>) -> Held
-        ensures { held_bytes result ≡ held.items }
+    /// These bytes, to be shared where they are many. Room behind shared bytes is given back.
+    fn sharing(mut held: Vec<u8>) -> Result<Held, NoMemory>
+        ensures { IfOk result (λ shared. held_bytes shared ≡ held.items) }
     {
         if held.len() < SHARED_FROM {
-            return Held::Own(held);
+            return Ok(Held::Own(held));
         }
         held.shrink_to_fit();
-        match Arc::new(*held.allocator(), held) {
-            Ok(held) => Held::Shared(held),
-            Err(failed) => Held::Own(failed.value),
-        }
+        Ok(Held::Shared(Arc::new(*held.allocator(), held)?))
     }
 }
 

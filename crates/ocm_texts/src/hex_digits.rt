@@ -77,7 +77,7 @@ fn spelled(alloc: Global, digits: &[u8]) -> Result<Bytes, NoMemory>
     for i in 0..digits.len() / 2 {
         held.push(hex_value_of(digits[2 * i]) * 16 + hex_value_of(digits[2 * i + 1]))?;
     }
-    Ok(Bytes::from_vec(held))
+    Bytes::from_vec(held).shared()
 }
 
 /// The bytes that a text of lower-case hexadecimal digits spells, two digits for each.

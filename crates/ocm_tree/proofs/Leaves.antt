@@ -1,4 +1,4 @@
-use Rattle.std.proofs.Common.{◌≡◌, ℕ, zero, suc, ◌+◌, ◌-◌, ◌<◌, ◌≤◌, List, [], ◌∷◌, ◌++◌, length, drop, Bool, true, false, cond, not, refl, sym, ap, ◌∙◌, arith}
+use Rattle.std.proofs.Common.{◌≡◌, ℕ, zero, suc, ◌<◌, ◌≤◌, List, [], ◌∷◌, ◌++◌, length, drop, Bool, true, false, cond, not, refl, sym, ap, ◌∙◌, arith}
 use Rattle.std.specs.Prelude.{Option, Some, None, is_some, sum_by, if◌then◌else◌}
 use Rattle.std.proofs.lemmas.List.Sums.{sum_by-cons}
 use Rattle.std.proofs.lemmas.Bool.Decides.{nat_tests}
@@ -12,7 +12,7 @@ use Rattle.ocm_rules.specs.State.{node_at}
 use Rattle.ocm_rules.proofs.Lists.{not_both}
 use Rattle.ocm_rules.proofs.Places.{same_place-equal, same_place-Decides, above-split}
 use Rattle.ocm_rules.proofs.Nodes.{node_at-with_node, node_at-filter}
-use Rattle.ocm_tree.specs.Tables.{Slots, IsRooted, IsLeaf}
+use Rattle.ocm_tree.specs.Tables.{IsRooted, IsLeaf}
 use Rattle.ocm_tree.proofs.NodeLists.{child_count-cons}
 use Rattle.ocm_tree.proofs.Removed.{outside, above-child, above-parent}
 use Rattle.ocm_tree.proofs.Carried.{length-parent}

@@ -2,7 +2,7 @@ use Rattle.std.proofs.Common.{◌≡◌, ℕ, List, [], ◌∷◌, ◌++◌, len
 use Rattle.std.specs.Prelude.{None, filter, if◌then◌else◌}
 use Rattle.ocm_entry.specs.declared.rows.Place.{Place}
 use Rattle.ocm_entry.specs.declared.rows.Node.{Node}
-use Rattle.ocm_rules.specs.Files.{same_place, is_at_or_above, moved, with_node, copies, stays}
+use Rattle.ocm_rules.specs.Files.{same_place, is_at_or_above, moved, with_node, copies}
 use Rattle.ocm_law_origins.specs.Origins.{Origin, with_origin, copied, origin_stays}
 use Rattle.ocm_tree.specs.Orders.{numbers_where}
 use Rattle.ocm_tree.specs.Standings.{origins_of}

@@ -2,6 +2,7 @@ ghost use Rattle.std.specs.Prelude.{◌≡◌, ◌<◌, ◌≤◌, ◌+◌, ◌�
 ghost use Rattle.std.specs.List.{list_any};
 ghost use Rattle.ocm_limits.specs.Limits.{most_nodes, most_stored_bytes};
 ghost use Rattle.ocm_entry.specs.declared.rows.Node.{Node};
+ghost use Rattle.ocm_entry.specs.declared.rows.Place.{Place};
 ghost use Rattle.ocm_rules.specs.Files.{size_of, parent_of, is_at_or_above, total_size, child_count, limit_of};
 ghost use Rattle.ocm_rules.specs.State.{node_at, EachOnce};
 ghost use Rattle.ocm_tree.specs.Tables.{somes, slot_of, cleared, IsLeaf, IsLone};
@@ -232,47 +233,46 @@ impl NodeTable {
         self.is_leaf(place) && self.slot_of(place).is_none()
     }
 
-    /// The amounts of the nodes as they stand, with those of the collection in which a place lies. None
-    /// where memory runs out.
-    fn amounts_beside(&self, to: &Place) -> Option<Amounts>
-        ensures { IfSome result (λ all. AreAmounts all (λ what. sum_by (weight_in what to.now) self.now.slots)) }
+    /// The amounts of the nodes as they stand, with those in the collection at a place.
+    fn amounts_beside(&self, parent: &Place) -> Amounts
+        ensures { (to : Place) → parent.now ≡ parent_of to → AreAmounts result (λ what. sum_by (weight_in what to) self.now.slots) }
     {
-        if let Ok(path) = to.path.parent() {
-            let parent = Place {
-                user: to.user,
-                path,
-            };
-            Some(Amounts {
-                bytes: self.total_size(),
-                nodes: self.len() as u64,
-                siblings: u64::from(self.child_count(&parent)),
-                long: false,
-            })
-        } else {
-            None
+        Amounts {
+            bytes: self.total_size(),
+            nodes: self.len() as u64,
+            siblings: u64::from(self.child_count(parent)),
+            long: false,
         }
     }
 
     /// The slot of the only node at and below `from`, and the amounts of the nodes as they stand, where
     /// nothing stands at `to` and below it. None where this is not known without a walk over all slots.
-    fn lone_carry(&self, from: &Place, to: &Place) -> Option<(usize, Amounts)>
+    fn lone_carry(&self, from: &Place, to: &Place, parent: &Place) -> Option<(usize, Amounts)>
+        requires { parent.now ≡ parent_of to.now }
         ensures { IfSome result (λ found. IsLoneCarry self.now.slots from.now to.now found.0 found.1) }
     {
         if !self.is_bare(to) {
             return None;
         }
-        match (self.lone_slot(from), self.amounts_beside(to)) {
-            (Some(index), Some(all)) => Some((index, all)),
-            _ => None,
+        match self.lone_slot(from) {
+            Some(index) => Some((index, self.amounts_beside(parent))),
+            None => None,
         }
     }
 
-    /// The amounts of the nodes after a copy or move.
-    pub fn amounts_after(&self, from: &Branch<'_>, to: &Branch<'_>, moving: bool) -> Amounts
+    /// The amounts of the nodes after a copy or move. The parent is the place that `to` lies in.
+    pub fn amounts_after(
+        &self,
+        from: &Branch<'_>,
+        to: &Branch<'_>,
+        parent: &Place,
+        moving: bool,
+    ) -> Amounts
+        requires { parent.now ≡ parent_of to.now }
         ensures amounts { AreAmounts result (λ what. sum_by (amount_in what from.now to.now moving) self.now.slots) }
         ensures long { result.long ≡ list_any (makes_long from.now to.now) self.now.slots }
     {
-        match self.lone_carry(from.place(), to.place()) {
+        match self.lone_carry(from.place(), to.place(), parent) {
             Some((index, all)) => amounts_by_one(all, from, to, moving, &self.slots, index),
             None => amounts_after(from, to, moving, &self.slots),
         }

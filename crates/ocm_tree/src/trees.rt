@@ -223,24 +223,32 @@ impl Tree {
     /// The first limit that would be passed by a copy or move of what stands at `from`, and of all
     /// below it, to `to`: the bytes of a file (1,048,576), those of all files (268,435,456), the number
     /// of nodes (65,536), that of the nodes in the collection of `to` (4,096), or the bytes of a path
-    /// (2,048).
-    pub fn limit_of_carry(&self, from: &Place, to: &Place, moving: bool) -> Option<Which>
+    /// (2,048). The parent is the place that `to` lies in.
+    pub fn limit_of_carry(
+        &self,
+        from: &Place,
+        to: &Place,
+        parent: &Place,
+        moving: bool,
+    ) -> Option<Which>
+        requires { parent.now ≡ parent_of to.now }
         ensures { IfSome (node_at self.now.nodes from.now) (λ standing. result ≡ limit_of_carry self.now.nodes from.now to.now moving standing) }
     {
         if size_at(self.table.node_at(from)) > MOST_FILE_BYTES {
             return Some(Which::FileSize);
         }
-        self.limit_after(from, to, moving)
+        self.limit_after(from, to, parent, moving)
     }
 
     /// The first limit that is passed by the numbers of what stands after a copy or move, else the limit
     /// on the paths that it makes, where one passes it.
-    fn limit_after(&self, from: &Place, to: &Place, moving: bool) -> Option<Which>
+    fn limit_after(&self, from: &Place, to: &Place, parent: &Place, moving: bool) -> Option<Which>
+        requires { parent.now ≡ parent_of to.now }
         ensures { result ≡ option_or (limit_after self.now.nodes from.now to.now moving) (path_limit (copies from.now to.now self.now.nodes)) }
     {
         let source = Branch::new(from);
         let target = Branch::new(to);
-        let after = self.table.amounts_after(&source, &target, moving);
+        let after = self.table.amounts_after(&source, &target, parent, moving);
         let numbers = first_passed(after.bytes, after.nodes, after.siblings);
         numbers.or(limit_of_paths(after.long))
     }

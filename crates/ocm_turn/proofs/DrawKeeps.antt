@@ -1,5 +1,5 @@
 -- A try to draw a ticket keeps the rule.
-use Rattle.std.proofs.Common.{◌≡◌, ℕ, ◌+◌, ◌≤◌, eqb, inl, inr, ⊎_elim, List, [], ◌∷◌, get_or, set, refl, sym, ap, ◌∙◌, subst, arith, true, false, Option, Some, eq-eqb, ne_eqb}
+use Rattle.std.proofs.Common.{◌≡◌, ℕ, ◌+◌, ◌≤◌, eqb, inl, inr, ⊎_elim, List, [], ◌∷◌, length, get_or, set, refl, sym, ap, ◌∙◌, subst, arith, true, false, Option, Some, eq-eqb, ne_eqb}
 use mathlib.Core.Logic.{dite}
 use mathlib.Core.Option as home
 use native.Mathlib.Decide.{ℕ_discrete}
@@ -8,10 +8,11 @@ use Rattle.atomic_table.specs.Table.{State, Me, step, keeps, stepped, Allows}
 use Rattle.ocm_entry.specs.declared.entries.Entry.{Entry}
 use Rattle.ocm_turn.specs.declared.view.View.{View}
 use Rattle.ocm_turn.specs.declared.view.Stage.TheVariants.{Named}
-use Rattle.ocm_turn.specs.Rule.{IsIdle, Fits, Sees, EachView, SomeView, Rule, Kept, Holds}
+use Rattle.ocm_turn.specs.Rule.{IsIdle, Fits, Sees, EachView, SomeView, Tally, Rule, Kept, Holds}
 use Rattle.ocm_turn.specs.Steps.{ticketed, found_at, draws}
 use Rattle.ocm_turn.proofs.ViewLemmas.{same_some, no_ticket, not_both, here_again, some_set, each_set, one_hand_set, apart_set}
 use Rattle.ocm_turn.proofs.RuleLemmas.{kept_at, replaced}
+use Rattle.ocm_turn.proofs.TallyLemmas.{tally_set}
 
 module _ {T G : Type 0} (terms_of : T → G) (stands : T → List Entry → List Entry → Type 0) (legal : G → List Entry → List Entry → Type 0) (limit : ℕ) where
   -- a new ticket
@@ -37,6 +38,7 @@ module _ {T G : Type 0} (terms_of : T → G) (stands : T → List Entry → List
         drawn = let d = f.drawn in omega (arith, d);
         ticket = λ t e. let p = f.ticket t e in (p.0, let q = p.1 in omega (arith, q));
         turn = f.turn;
+        spent = f.spent;
       } in
       let mine : F' w = record {
         stage = old.stage;
@@ -51,6 +53,7 @@ module _ {T G : Type 0} (terms_of : T → G) (stands : T → List Entry → List
         drawn = omega arith;
         ticket = λ t e. let q : next ≡ t = same_some next t e in (omega (arith, q, order), omega (arith, q));
         turn = λ on. absurd (not_both (sym idle.1 ∙ on));
+        spent = old.spent;
       } in
       record {
         order = omega (arith, order);
@@ -71,8 +74,8 @@ module _ {T G : Type 0} (terms_of : T → G) (stands : T → List Entry → List
 
   -- a new word 0 and view
   moved : (terms : G) (s : State (Option T) (View G)) (k : Kept terms_of stands legal limit terms s) (n id : ℕ) (held : List (ℕ × Option T)) (w : View G)
-      → Rule terms_of stands legal limit terms k.base k.history n s.homes (set s.views id w) → Kept terms_of stands legal limit terms (stepped s 0 n id held w keeps)
-  moved terms s k n id held w rule = record { base = k.base; history = k.history; next = n; bells = k.bells; words = ap (λ (ws : List ℕ). set ws 0 n) k.words; rule = rule }
+      → Rule terms_of stands legal limit terms k.base k.history n s.homes (set s.views id w) → Tally (length k.history) (set s.views id w) → Kept terms_of stands legal limit terms (stepped s 0 n id held w keeps)
+  moved terms s k n id held w rule tally = record { base = k.base; history = k.history; next = n; bells = k.bells; words = ap (λ (ws : List ℕ). set ws 0 n) k.words; rule = rule; tally = tally }
 
   pub draws_keep : (value : T) (n slots id : ℕ) (me : Me (Option T) (View G)) → n ≤ limit → IsIdle me.0
       → Allows (Holds terms_of stands legal limit value) slots id me 0 (λ x. either (eqb x n) (n + 1) x) (draws (step slots 0 n (n + 1) home.none) me)
@@ -95,7 +98,8 @@ module _ {T G : Type 0} (terms_of : T → G) (stands : T → List Entry → List
         inr (subst (λ b. K (stepped s 0 (either b (n + 1) x) id me.1 (ticketed v x) keeps)) (sym (eq-eqb x n hit))
             (moved terms s k (n + 1) id me.1 (ticketed v x)
             (subst (λ (z : ℕ × ℕ). R (z.0 + 1) (set s.views id (ticketed v z.1))) (λ i. (to_next i, sym is_next i))
-            (drew terms k.base k.history k.next s.homes s.views id v k.rule at idle (omega (arith, to_next, below)))))),
+            (drew terms k.base k.history k.next s.homes s.views id v k.rule at idle (omega (arith, to_next, below))))
+            (tally_set s.views id v (ticketed v x) at (length k.history) (length k.history) refl refl refl k.tally))),
         (refl, grows, (λ _. refl), λ miss. absurd (miss hit)),
       ))
       (λ miss. (
@@ -118,6 +122,8 @@ module _ {T G : Type 0} (terms_of : T → G) (stands : T → List Entry → List
               drawn = omega (arith, is_next);
               ticket = old.ticket;
               turn = old.turn;
-            })))),
+              spent = old.spent;
+            }))
+            (tally_set s.views id v (found_at v x) at (length k.history) (length k.history) refl refl refl k.tally))),
         (refl, grows, (λ hit. absurd (miss hit)), λ _. refl),
       ))

@@ -14,6 +14,7 @@ use Rattle.ocm_turn.specs.Steps.{finished, finishes}
 use Rattle.ocm_turn.proofs.CallLemmas.{older_length, at_newer, at_front, inside, stand_below, length_in_order, each_map}
 use Rattle.ocm_turn.proofs.ViewLemmas.{same_some, no_ticket, not_both, here_again, some_set, each_set, one_hand_set, apart_set}
 use Rattle.ocm_turn.proofs.RuleLemmas.{kept_at, sound_of}
+use Rattle.ocm_turn.proofs.TallyLemmas.{tally_set}
 
 longer_by : (a b : List Entry) (e : Entry) → IsOlderPart a b → IsOlderPart a (e ∷ b)
 longer_by a b e p = (e ∷ p.0, ap (λ (l : List Entry). e ∷ l) p.1)
@@ -52,6 +53,7 @@ module _ {T G : Type 0} (terms_of : T → G) (stands : T → List Entry → List
       drawn = old.drawn;
       ticket = λ t e. absurd (no_ticket t e);
       turn = λ off. absurd (not_both off);
+      spent = λ other. absurd (other named);
     }
 
     fits_others : (j : ℕ) (u : View G) → j ≢ id → Sees views j u → Fits limit terms base history next u → Fits limit terms base (e ∷ history) next u
@@ -69,6 +71,7 @@ module _ {T G : Type 0} (terms_of : T → G) (stands : T → List Entry → List
       ticket = λ t theirs. let p = f.ticket t theirs in let low = p.0 in
           let not_same : length history ≢ t = λ same. not_other j u other at' (theirs ∙ ap Some (sym same)) in (omega (arith, low, not_same), p.1);
       turn = λ theirs. absurd (not_other j u other at' (f.turn theirs).0);
+      spent = f.spent;
     }
 
     went : (x : T) → homes ≡ home.none ∷ [] → terms_of x ≡ terms → stands x base (e ∷ history) → legal terms base (e ∷ history)
@@ -137,6 +140,6 @@ module _ {T G : Type 0} (terms_of : T → G) (stands : T → List Entry → List
         gives,
         tt,
         inr (subst (λ (c : List (ℕ × Option T)). K (stepped s 1 ((n + 1) % 2 ^ 64) id c w gives)) (sym holding)
-            record { base = k.base; history = e ∷ k.history; next = k.next; bells = k.bells; words = words; rule = rule }),
+            record { base = k.base; history = e ∷ k.history; next = k.next; bells = k.bells; words = words; rule = rule; tally = tally_set s.views id v w at (length k.history) (suc (length k.history)) (omega arith) refl refl k.tally }),
         (refl, refl, sound_of limit terms k.base (e ∷ k.history) k.next w fits, length_in_order w.mine (length w.seen) fits.order (stand_below w.seen w.mine fits.mine)),
       )

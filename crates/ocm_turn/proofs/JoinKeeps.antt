@@ -1,5 +1,5 @@
 -- A join of two seats keeps the rule.
-use Rattle.std.proofs.Common.{◌≡◌, ℕ, ◌≢◌, inl, inr, ⊎_elim, List, [], ◌∷◌, set, refl, sym, ap, ◌∙◌, subst, arith, true, false, Option, Some, append-nil}
+use Rattle.std.proofs.Common.{◌≡◌, ℕ, ◌≢◌, ◌<◌, inl, inr, ⊎_elim, List, [], ◌∷◌, length, set, refl, sym, ap, ◌∙◌, subst, arith, true, false, Option, Some, append-nil}
 use mathlib.Core.Logic.{dite}
 use mathlib.Core.Option as home
 use mathlib.Core.Option.{some-injective}
@@ -12,11 +12,12 @@ use Rattle.ocm_turn.specs.declared.view.Call.{Call}
 use Rattle.ocm_turn.specs.declared.view.View.{View}
 use Rattle.ocm_turn.specs.declared.view.Stage.TheVariants.{Named}
 use Rattle.ocm_turn.specs.Calls.{IsOlderPart, Each, Disjoint, entry_at}
-use Rattle.ocm_turn.specs.Rule.{spent_view, IsIdle, Fits, Sees, EachView, SomeView, Rule, Holds}
+use Rattle.ocm_turn.specs.Rule.{spent_view, IsIdle, Fits, Sees, EachView, SomeView, total, calls_of, parts_of, HasPart, Tally, Rule, Holds}
 use Rattle.ocm_turn.specs.Steps.{joined}
-use Rattle.ocm_turn.proofs.CallLemmas.{older_self, stand_older, shorter_longer, left_older, right_older, longer_either, longer_left, longer_right, each_merged, in_order_merged, disjoint_none}
+use Rattle.ocm_turn.proofs.CallLemmas.{older_self, stand_older, shorter_longer, left_older, right_older, longer_either, longer_left, longer_right, each_merged, in_order_merged, disjoint_none, length_merged}
 use Rattle.ocm_turn.proofs.ViewLemmas.{set_swap, here_again, spent_new, spent_named, no_ticket, not_both, some_set, each_set, one_hand_set, apart_set}
 use Rattle.ocm_turn.proofs.RuleLemmas.{kept_at}
+use Rattle.ocm_turn.proofs.TallyLemmas.{total_set}
 
 module _ {T G : Type 0} (terms_of : T → G) (stands : T → List Entry → List Entry → Type 0) (legal : G → List Entry → List Entry → Type 0) (limit : ℕ) where
   module _ (terms : G) (base history : List Entry) (next : ℕ) (homes : List (home.Option (Option T))) (views : List (View G)) (id other : ℕ) (v w : View G)
@@ -41,6 +42,7 @@ module _ {T G : Type 0} (terms_of : T → G) (stands : T → List Entry → List
       drawn = omega arith;
       ticket = λ t e. absurd (no_ticket t e);
       turn = λ e. absurd (not_both e);
+      spent = λ _. refl;
     }
 
     fits_both : F both
@@ -64,6 +66,7 @@ module _ {T G : Type 0} (terms_of : T → G) (stands : T → List Entry → List
           drawn = omega (arith, c, d);
           ticket = a.ticket;
           turn = λ on. absurd (not_both (sym quiet.1 ∙ on));
+          spent = λ other. absurd (other quiet.2);
         }
 
     abbrev views1 : List (View G)
@@ -115,6 +118,25 @@ module _ {T G : Type 0} (terms_of : T → G) (stands : T → List Entry → List
           inr (m.0, some_set views1 id v both at1 (λ u. u.turn ≡ true) (λ e. e) (some_set views other w spent_view at2 (λ u. u.turn ≡ true) (λ e. absurd (not_both (sym idle.1 ∙ e))) m.1))) h.at_home;
     }
 
+    tally_both : (n : ℕ) → Tally n views → Tally n (set views1 id both)
+    tally_both n t =
+        let a = total_set calls_of views other w spent_view at2 in
+        let b = total_set calls_of views1 id v both at1 in
+        let c = length_merged v.mine w.mine in
+        let p = total_set parts_of views other w spent_view at2 in
+        let q = total_set parts_of views1 id v both at1 in
+        let counted = t.counted in
+        let most = t.most in
+        let same : total parts_of (set views1 id both) ≡ total parts_of views = omega (arith, p, q) in
+        record {
+          counted = omega (arith, a, b, c, counted);
+          most = omega (arith, same, most);
+          held = λ e.
+              let old = t.held (sym same ∙ e) in
+              each_set views1 id v both at1 HasPart HasPart (λ j u _ _ f. f) (λ _. let f : 0 < v.parts = old id v at quiet.2 in omega (arith, f))
+              (each_set views other w spent_view at2 HasPart HasPart (λ j u _ _ f. f) (λ e. absurd (spent_named e)) old);
+        }
+
   pub joins_keep : (value : T) (id other : ℕ) (v w : View G) → IsIdle v → IsIdle w → Joins (Holds terms_of stands legal limit value) id v other w (joined v w) spent_view
   joins_keep value id other v w quiet idle s given at apart at' =
       let terms : G = terms_of value in
@@ -128,4 +150,6 @@ module _ {T G : Type 0} (terms_of : T → G) (stands : T → List Entry → List
         words = k.words;
         rule = subst (Rule terms_of stands legal limit terms k.base k.history k.next s.homes) (set_swap s.views other id spent_view (joined v w) apart)
             (into_one terms k.base k.history k.next s.homes s.views id other v w k.rule at at2 apart quiet idle);
+        tally = subst (Tally (length k.history)) (set_swap s.views other id spent_view (joined v w) apart)
+            (tally_both terms k.base k.history k.next s.homes s.views id other v w k.rule at at2 apart quiet idle (length k.history) k.tally);
       }

@@ -1,6 +1,7 @@
 pub mod CallLemmas
 pub mod ViewLemmas
 pub mod RuleLemmas
+pub mod TallyLemmas
 pub mod DrawKeeps
 pub mod LookKeeps
 pub mod FinishKeeps
@@ -10,4 +11,5 @@ pub mod NameKeeps
 pub mod RingKeeps
 pub mod PassLemmas
 pub mod JoinedCalls
+pub mod AllCalls
 pub mod MoveLemmas

@@ -15,6 +15,8 @@ use Rattle.ocm_turn.specs.Steps.{turned_to, looks}
 use Rattle.ocm_turn.proofs.CallLemmas.{older_self, stand_older}
 use Rattle.ocm_turn.proofs.ViewLemmas.{same_some, no_ticket, not_both, here_again, some_set, each_set, one_hand_set, apart_set}
 use Rattle.ocm_turn.proofs.RuleLemmas.{kept_at, sound_of, few}
+use Rattle.ocm_turn.proofs.TallyLemmas.{tally_set, all_mine}
+use Rattle.ocm_turn.specs.Passes.{all_parts}
 
 module _ {T G : Type 0} (terms_of : T → G) (stands : T → List Entry → List Entry → Type 0) (legal : G → List Entry → List Entry → Type 0) (limit : ℕ) where
   -- the view whose turn has come agrees with the history
@@ -32,6 +34,7 @@ module _ {T G : Type 0} (terms_of : T → G) (stands : T → List Entry → List
     drawn = old.drawn;
     ticket = old.ticket;
     turn = λ _. (has, refl);
+    spent = old.spent;
   }
 
   -- the turn comes
@@ -82,6 +85,7 @@ module _ {T G : Type 0} (terms_of : T → G) (stands : T → List Entry → List
       let bounded = h.bounded in
       let calls = few limit terms k.base k.history k.next v old in
       let small : length v.mine ≤ v.limit + 1 = let same = old.limit_is named in omega (arith, order, bounded, calls, same) in
+      let whole : v.parts ≡ all_parts → length v.mine ≡ x = λ all. all_mine s.views id v at (length k.history) k.tally (λ j u at'. (h.each j u at').spent) all ∙ sym is_done in
       let Goal : Type 0 = (w : View G) × (a : Act (Option T)) × Valid s.homes me.1 a × Holds terms_of stands legal limit value (stepped s 1 x id me.1 w a) × looks terms_of stands legal (step slots 1 0 0 home.none) me x (w, carried_after me.1 a) in
       let hits : v.ticket ≡ Some x → Goal = λ hit.
       let has : v.ticket ≡ Some (length k.history) = hit ∙ ap Some is_done in
@@ -91,7 +95,7 @@ module _ {T G : Type 0} (terms_of : T → G) (stands : T → List Entry → List
         w,
         takes 0 (Some f.0),
         ap (λ (hs : List (home.Option (Option T))). get_elem? hs 0) f.1,
-        inr record { base = k.base; history = k.history; next = k.next; bells = k.bells; words = words_stay; rule = came terms k.base k.history k.next s.homes s.views id v f.0 h at has named f.1 },
+        inr record { base = k.base; history = k.history; next = k.next; bells = k.bells; words = words_stay; rule = came terms k.base k.history k.next s.homes s.views id v f.0 h at has named f.1; tally = tally_set s.views id v w at (length k.history) (length k.history) refl refl refl k.tally },
         (
           (λ _. (
             f.0,
@@ -107,6 +111,7 @@ module _ {T G : Type 0} (terms_of : T → G) (stands : T → List Entry → List
           (λ miss. absurd (miss hit)),
           sound_of limit terms k.base k.history k.next w fits,
           small,
+          whole,
         ),
       ) in
       let misses : v.ticket ≢ Some x → Goal = λ miss. (
@@ -114,8 +119,8 @@ module _ {T G : Type 0} (terms_of : T → G) (stands : T → List Entry → List
         keeps,
         tt,
         inr (subst (λ (vs : List (View G)). K record { words = set s.words 1 x; homes = s.homes; views = vs }) (sym (set_again s.views id v at))
-            record { base = k.base; history = k.history; next = k.next; bells = k.bells; words = words_stay; rule = h }),
-        ((λ hit. absurd (miss hit)), (λ _. refl), sound_of limit terms k.base k.history k.next v old, small),
+            record { base = k.base; history = k.history; next = k.next; bells = k.bells; words = words_stay; rule = h; tally = k.tally }),
+        ((λ hit. absurd (miss hit)), (λ _. refl), sound_of limit terms k.base k.history k.next v old, small, whole),
       ) in
       elim (v.ticket) as (λ o. v.ticket ≡ o → Goal) [
         | None ↦ λ none. misses (λ e. no_ticket x (sym none ∙ e))

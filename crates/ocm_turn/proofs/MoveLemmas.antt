@@ -27,7 +27,7 @@ module _ {Terms : Type 0} where
   }
 
   pub moved_nothing : (a : Known Terms) → Moved a a []
-  moved_nothing a = record { ground = same_ground a; seen = ([], refl); mine = ([], refl, refl); drawn = omega arith }
+  moved_nothing a = record { ground = same_ground a; seen = ([], refl); mine = ([], refl, refl); drawn = omega arith; parts = refl }
 
   pub moved_then : (a b c : Known Terms) (x y : List Entry) → Moved a b x → Moved b c y → Moved a c (y ++ x)
   moved_then a b c x y p q = record {
@@ -39,6 +39,7 @@ module _ {Terms : Type 0} where
       map-append (λ (c : Call). c.entry) q.mine.0 p.mine.0 ∙ λ i. q.mine.2 i ++ p.mine.2 i,
     );
     drawn = omega (arith, p.drawn, q.drawn);
+    parts = q.parts ∙ p.parts;
   }
 
   pub unspent_nothing : (limit : ℕ) (a : Known Terms) → Unspent limit a a []
@@ -50,15 +51,16 @@ module _ {Terms : Type 0} where
   unspent_then limit a b c x y (inr g) (inl h) = inr (omega (arith, g, h.1))
 
   -- a call of the turnstile
-  pub moved_call : (old new : Known Terms) (ask : Ask) (r : Result Reply Spent) → SameGround old new
+  pub moved_call : (old new : Known Terms) (ask : Ask) (r : Result Reply Spent) → SameGround old new × (new.parts ≡ old.parts)
       → IfOk r (λ reply. (before : List Entry) × (new.seen ≡ entry ask reply ∷ before) × IsOlderPart old.seen before × (length before ≡ new.drawn))
       → IfOk r (λ reply. new.mine ≡ call new.drawn (entry ask reply) ∷ old.mine) → old.drawn ≤ new.drawn
       → IfOk r (λ reply. Moved old new (entry ask reply ∷ []))
   moved_call old new ask (Ok reply) ground seen mine drawn = record {
-    ground = ground;
+    ground = ground.0;
     seen = (entry ask reply ∷ seen.2.0, seen.1 ∙ ap (λ (l : List Entry). entry ask reply ∷ l) seen.2.1);
     mine = (call new.drawn (entry ask reply) ∷ [], mine, refl);
     drawn = drawn;
+    parts = ground.1;
   }
   moved_call old new ask (Err spent) ground seen mine drawn = tt
 

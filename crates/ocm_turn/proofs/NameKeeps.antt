@@ -6,7 +6,7 @@ use Rattle.atomic_table.specs.Table.{Me, step, keeps, Allows}
 use Rattle.ocm_entry.specs.declared.entries.Entry.{Entry}
 use Rattle.ocm_turn.specs.declared.view.View.{View}
 use Rattle.ocm_turn.specs.Calls.{Disjoint}
-use Rattle.ocm_turn.specs.Rule.{newcomer, Fits, Rule, Kept, Opened, Holds}
+use Rattle.ocm_turn.specs.Rule.{newcomer, Fits, HasPart, Tally, Rule, Kept, Opened, Holds}
 use Rattle.ocm_turn.specs.Steps.{named, names}
 use Rattle.ocm_turn.proofs.CallLemmas.{older_self}
 use Rattle.ocm_turn.proofs.ViewLemmas.{alone, no_ticket, not_both, new_named}
@@ -29,6 +29,14 @@ module _ {T G : Type 0} (terms_of : T → G) (stands : T → List Entry → List
     drawn = omega arith;
     ticket = λ t e. absurd (no_ticket t e);
     turn = λ e. absurd (not_both e);
+    spent = λ _. refl;
+  }
+
+  tally_first : (terms : G) (base : List Entry) → Tally 0 (first terms base ∷ [])
+  tally_first terms base = record {
+    counted = refl;
+    most = omega arith;
+    held = λ _ j v e. subst HasPart (alone j (first terms base) v e).0 (λ _. omega arith);
   }
 
   opened : (value : T) (base : List Entry) (homes : List (home.Option (Option T))) → homes ≡ home.some (Some value) ∷ [] → stands value base [] → legal (terms_of value) base []
@@ -67,6 +75,7 @@ module _ {T G : Type 0} (terms_of : T → G) (stands : T → List Entry → List
           bells = o.bells;
           words = words;
           rule = subst (λ (vs : List (View G)). Rule terms_of stands legal limit terms base [] 0 s.homes vs) (sym views) (opened value base s.homes o.homes st ok);
+          tally = subst (Tally 0) (sym views) (tally_first terms base);
         },
         (base, (λ i. (named (sym new i).0 base, me.1)), fact),
       ))

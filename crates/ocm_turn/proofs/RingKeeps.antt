@@ -1,4 +1,4 @@
--- A ring of a bell keeps the rule.
+-- Whatever is written to a bell keeps the rule.
 use Rattle.std.proofs.Common.{◌≡◌, ℕ, zero, suc, ◌+◌, ◌%◌, ◌^◌, ◌≤◌, inr, List, ◌∷◌, length, get_or, set, refl, sym, ap, ◌∙◌, subst, arith, Option}
 use mathlib.Core.Option as home
 use Rattle.atomic_table.specs.Table.{State, Me, step, keeps, Allows}
@@ -17,18 +17,18 @@ beyond a b bells (suc zero) n high = absurd (omega (arith, high))
 beyond a b bells (suc (suc i)) n high = (set bells i n, refl)
 
 module _ {T G : Type 0} (terms_of : T → G) (stands : T → List Entry → List Entry → Type 0) (legal : G → List Entry → List Entry → Type 0) (limit : ℕ) where
-  pub rings_keep : (value : T) (slots id i : ℕ) (me : Me (Option T) (View G)) → 2 ≤ i → me.0.stage ≡ Named
-      → Allows (Holds terms_of stands legal limit value) slots id me i (λ n. (n + 1) % 2 ^ 64) (rings (step slots i 1 0 home.none) me)
-  rings_keep value slots id i me high named s given _ at _ =
+  pub rings_keep : (change : ℕ → ℕ) (value : T) (slots id i : ℕ) (me : Me (Option T) (View G)) → 2 ≤ i → me.0.stage ≡ Named
+      → Allows (Holds terms_of stands legal limit value) slots id me i change (rings (step slots i 1 0 home.none) me)
+  rings_keep change value slots id i me high named s given _ at _ =
       let K : State (Option T) (View G) → Type 0 = Kept terms_of stands legal limit (terms_of value) in
       let k = kept_at terms_of stands legal limit value s given id me.0 at named in
-      let n : ℕ = (get_or s.words i 0 + 1) % 2 ^ 64 in
+      let n : ℕ = change (get_or s.words i 0) in
       let rung = beyond k.next (length k.history) k.bells i n high in
       let words : set s.words i n ≡ k.next ∷ length k.history ∷ rung.0 = ap (λ (ws : List ℕ). set ws i n) k.words ∙ rung.1 in (
         me.0,
         keeps,
         tt,
         inr (subst (λ (vs : List (View G)). K record { words = set s.words i n; homes = s.homes; views = vs }) (sym (set_again s.views id me.0 at))
-            record { base = k.base; history = k.history; next = k.next; bells = rung.0; words = words; rule = k.rule }),
+            record { base = k.base; history = k.history; next = k.next; bells = rung.0; words = words; rule = k.rule; tally = k.tally }),
         refl,
       )

@@ -1,15 +1,15 @@
 -- A split of a seat keeps the rule.
-use Rattle.std.proofs.Common.{◌≡◌, ℕ, inl, inr, ⊎_elim, List, [], ◌∷◌, ◌++◌, refl, sym, subst, true, false, Option, Some, None}
+use Rattle.std.proofs.Common.{◌≡◌, ℕ, inl, inr, ⊎_elim, List, [], ◌∷◌, ◌++◌, length, set, refl, true, false, Option, Some, None}
 use mathlib.Core.Option as home
 use Rattle.atomic_table.specs.Table.{Splits}
-use Rattle.atomic_table.proofs.Lists.{set_again}
 use Rattle.ocm_entry.specs.declared.entries.Entry.{Entry}
 use Rattle.ocm_turn.specs.declared.view.View.{View}
 use Rattle.ocm_turn.specs.declared.view.Stage.TheVariants.{Named}
 use Rattle.ocm_turn.specs.Rule.{Fits, EachView, SomeView, Rule, Holds}
-use Rattle.ocm_turn.specs.Steps.{beside}
+use Rattle.ocm_turn.specs.Steps.{parted, beside}
 use Rattle.ocm_turn.proofs.ViewLemmas.{no_ticket, not_both, some_added, each_added, one_hand_added, apart_added}
-use Rattle.ocm_turn.proofs.RuleLemmas.{kept_at}
+use Rattle.ocm_turn.proofs.RuleLemmas.{kept_at, replaced}
+use Rattle.ocm_turn.proofs.TallyLemmas.{tally_split}
 
 module _ {T G : Type 0} (terms_of : T → G) (stands : T → List Entry → List Entry → Type 0) (legal : G → List Entry → List Entry → Type 0) (limit : ℕ) where
   -- one view more, without ticket and calls
@@ -31,7 +31,7 @@ module _ {T G : Type 0} (terms_of : T → G) (stands : T → List Entry → List
         (λ (m : (homes ≡ home.none ∷ []) × SomeView views (λ u. u.turn ≡ true)). inr (m.0, some_added views w (λ u. u.turn ≡ true) m.1)) h.at_home;
   }
 
-  pub splits_keep : (value : T) (id : ℕ) (v : View G) → v.stage ≡ Named → Splits (Holds terms_of stands legal limit value) id v v (beside v)
+  pub splits_keep : (value : T) (id : ℕ) (v : View G) → v.stage ≡ Named → Splits (Holds terms_of stands legal limit value) id v (parted v) (beside v)
   splits_keep value id v named s given at =
       let terms : G = terms_of value in
       let k = kept_at terms_of stands legal limit value s given id v at named in
@@ -42,8 +42,23 @@ module _ {T G : Type 0} (terms_of : T → G) (stands : T → List Entry → List
         next = k.next;
         bells = k.bells;
         words = k.words;
-        rule = subst (λ (vs : List (View G)). Rule terms_of stands legal limit terms k.base k.history k.next s.homes (vs ++ beside v ∷ [])) (sym (set_again s.views id v at))
-            (added terms k.base k.history k.next s.homes s.views (beside v) k.rule refl refl refl record {
+        rule = added terms k.base k.history k.next s.homes (set s.views id (parted v)) (beside v)
+            (replaced terms_of stands legal limit terms k.base k.history k.next s.homes s.views id v (parted v) k.rule at refl refl refl refl refl record {
+              stage = old.stage;
+              limit_is = old.limit_is;
+              base_is = old.base_is;
+              terms_are = old.terms_are;
+              met = old.met;
+              seen = old.seen;
+              heard = old.heard;
+              mine = old.mine;
+              order = old.order;
+              drawn = old.drawn;
+              ticket = old.ticket;
+              turn = old.turn;
+              spent = old.spent;
+            })
+            refl refl refl record {
               stage = old.stage;
               limit_is = old.limit_is;
               base_is = old.base_is;
@@ -56,5 +71,7 @@ module _ {T G : Type 0} (terms_of : T → G) (stands : T → List Entry → List
               drawn = old.drawn;
               ticket = λ t e. absurd (no_ticket t e);
               turn = λ e. absurd (not_both e);
-            });
+              spent = λ _. refl;
+            };
+        tally = tally_split s.views id v at named (length k.history) k.tally;
       }

@@ -1,8 +1,8 @@
--- Laws of calls that were joined.
+-- Laws of calls in a history, and of calls that were joined.
 use Rattle.std.specs.Prelude.{◌≡◌, ◌≢◌, ◌+◌, List, [], ◌∷◌, length, ⊤}
 use Rattle.ocm_entry.specs.declared.entries.Entry.{Entry}
 use Rattle.ocm_turn.specs.declared.view.Call.{Call}
-use Rattle.ocm_turn.specs.Calls.{Each, StandIn, InOrder, Disjoint, merged}
+use Rattle.ocm_turn.specs.Calls.{entries, Each, StandIn, InOrder, Disjoint, merged}
 
 -- each call has a place of its own
 abbrev pub EachAlone : List Call → Type 0
@@ -24,3 +24,7 @@ JoinedAreAlone = (calls others : List Call) → EachAlone (merged calls others) 
 -- joined calls are as many as both lists of them
 abbrev pub JoinedAreCounted : Type 0
 JoinedAreCounted = (calls others : List Call) → length (merged calls others) ≡ length calls + length others
+
+-- calls that stand in a history, in order, and are as many as its entries, are the whole of it
+abbrev pub AllCallsAreTheHistory : Type 0
+AllCallsAreTheHistory = (history : List Entry) (calls : List Call) → StandIn history calls → InOrder calls → length calls ≡ length history → entries calls ≡ history

@@ -15,6 +15,7 @@ pub record Moved {Terms : Type 0} (old new : Known Terms) (calls : List Entry) :
   pub seen : IsOlderPart old.seen new.seen
   pub mine : Grows old new calls
   pub drawn : old.drawn ≤ new.drawn
+  pub parts : new.parts ≡ old.parts
 
 -- none of these calls was refused: none was made, or the last word that was drawn is below the limit
 abbrev pub Unspent : {Terms : Type 0} → ℕ → Known Terms → Known Terms → List Entry → Type 0

@@ -1,5 +1,5 @@
 -- What contracts see of a turnstile and of a pass.
-use Rattle.std.specs.Prelude.{◌≡◌, ℕ, List, Option, Some, None, true, is_some}
+use Rattle.std.specs.Prelude.{◌≡◌, ℕ, ◌^◌, List, Option, Some, None, true, is_some}
 use Rattle.std.proofs.lemmas.Bool.{false≢true}
 use Rattle.atomic_table.specs.Seated.{TableId}
 use Rattle.ocm_entry.specs.declared.entries.Entry.{Entry}
@@ -10,7 +10,11 @@ pub record Gate : Type 0 where
   pub id : TableId
   pub limit : ℕ
 
--- a pass: its turnstile, the base and the terms of the value behind it, the history up to the pass's last call, its own calls, and the greatest ticket word that a draw has found
+-- How many parts a turnstile has. Its first pass has all of them, and each pass that is split off another takes one.
+abbrev pub all_parts : ℕ
+all_parts = 2 ^ 64
+
+-- a pass: its turnstile, the base and the terms of the value behind it, the history up to the pass's last call, its own calls, the greatest ticket word that a draw has found, and its parts
 pub record Known (Terms : Type 0) : Type 0 where
   pub turnstile : TableId
   pub base : List Entry
@@ -18,6 +22,7 @@ pub record Known (Terms : Type 0) : Type 0 where
   pub seen : List Entry
   pub mine : List Call
   pub drawn : ℕ
+  pub parts : ℕ
 
 -- a pass belongs to the turnstile that made it
 abbrev pub BelongsTo : {Terms : Type 0} → Gate → Known Terms → Type 0

@@ -8,14 +8,15 @@ use Rattle.ocm_entry.specs.declared.entries.Entry.{Entry}
 use Rattle.ocm_turn.specs.declared.view.View.{View}
 use Rattle.ocm_turn.specs.declared.view.Stage.TheVariants.{New, Named, Spent}
 use Rattle.ocm_turn.specs.Calls.{IsOlderPart, StandIn, InOrder, Disjoint}
+use Rattle.ocm_turn.specs.Passes.{all_parts}
 
 -- the view of the first seat, before its base is named
 abbrev pub newcomer : {G : Type 0} → ℕ → G → View G
-newcomer limit terms = record { stage = New; limit = limit; terms = Some terms; base = []; seen = []; heard = []; mine = []; met_base = []; met_terms = Some terms; ticket = None; turn = false; drawn = 0 }
+newcomer limit terms = record { stage = New; limit = limit; terms = Some terms; base = []; seen = []; heard = []; mine = []; met_base = []; met_terms = Some terms; ticket = None; turn = false; drawn = 0; parts = all_parts }
 
 -- the view of a seat that was joined to another
 abbrev pub spent_view : {G : Type 0} → View G
-spent_view = record { stage = Spent; limit = 0; terms = None; base = []; seen = []; heard = []; mine = []; met_base = []; met_terms = None; ticket = None; turn = false; drawn = 0 }
+spent_view = record { stage = Spent; limit = 0; terms = None; base = []; seen = []; heard = []; mine = []; met_base = []; met_terms = None; ticket = None; turn = false; drawn = 0; parts = 0 }
 
 -- no ticket in hand
 abbrev pub IsIdle : {G : Type 0} → View G → Type 0
@@ -35,6 +36,7 @@ pub record Fits {G : Type 0} (limit : ℕ) (terms : G) (base history : List Entr
   pub drawn : v.drawn ≤ next
   pub ticket : (t : ℕ) → v.ticket ≡ Some t → (length history ≤ t) × (t < next)
   pub turn : v.turn ≡ true → (v.ticket ≡ Some (length history)) × (v.seen ≡ history)
+  pub spent : v.stage ≢ Named → v.mine ≡ []
 
 module _ {G : Type 0} (views : List (View G)) where
   -- the view of the seat j is v
@@ -56,6 +58,28 @@ OneHand {G} views = (i j : ℕ) (v w : View G) (t : ℕ) → Sees views i v → 
 -- no place has the calls of two views
 abbrev pub AllApart : {G : Type 0} → List (View G) → Type 0
 AllApart {G} views = (i j : ℕ) (v w : View G) → i ≢ j → Sees views i v → Sees views j w → Disjoint v.mine w.mine
+
+-- a number of each view, added up
+abbrev pub total : {G : Type 0} → (View G → ℕ) → List (View G) → ℕ
+total f [] = 0
+total f (v ∷ views) = f v + total f views
+
+-- how many calls a view has of its own
+abbrev pub calls_of : {G : Type 0} → View G → ℕ
+calls_of v = length v.mine
+
+abbrev pub parts_of : {G : Type 0} → View G → ℕ
+parts_of v = v.parts
+
+-- a seat that can make calls has a part
+abbrev pub HasPart : {G : Type 0} → View G → Type 0
+HasPart v = v.stage ≡ Named → 0 < v.parts
+
+-- The calls of all views are this many, and no more parts are out than there are; where none is lost, each seat that can make calls has one.
+pub record Tally {G : Type 0} (calls : ℕ) (views : List (View G)) : Type 0 where
+  pub counted : total calls_of views ≡ calls
+  pub most : total parts_of views ≤ all_parts
+  pub held : total parts_of views ≡ all_parts → EachView views HasPart
 
 module _ {T G : Type 0} (terms_of : T → G) (stands : T → List Entry → List Entry → Type 0) (legal : G → List Entry → List Entry → Type 0) (limit : ℕ) (terms : G) where
   -- the base, the one history, and the next ticket
@@ -79,6 +103,7 @@ module _ {T G : Type 0} (terms_of : T → G) (stands : T → List Entry → List
     pub bells : List ℕ
     pub words : s.words ≡ next ∷ length history ∷ bells
     pub rule : Rule base history next s.homes s.views
+    pub tally : Tally (length history) s.views
 
   -- the table just opened, before the base is named
   pub record Opened (value : T) (s : State (Option T) (View G)) : Type 0 where

@@ -1,10 +1,11 @@
 -- What each kind of step does to the seat's own view, and what it tells.
-use Rattle.std.specs.Prelude.{◌≡◌, ◌≢◌, ℕ, ◌+◌, ◌≤◌, List, [], ◌∷◌, length, true, false, Option, Some, None, max, unwrap_or}
+use Rattle.std.specs.Prelude.{◌≡◌, ◌≢◌, ℕ, ◌+◌, ◌-◌, ◌≤◌, nat_lt, if◌then◌else◌, List, [], ◌∷◌, length, true, false, Option, Some, None, max, unwrap_or}
 use Rattle.atomic_table.specs.Table.{Me, Step, rest}
 use Rattle.ocm_entry.specs.declared.entries.Entry.{Entry}
 use Rattle.ocm_turn.specs.declared.view.View.{View}
 use Rattle.ocm_turn.specs.declared.view.Stage.TheVariants.{Named}
 use Rattle.ocm_turn.specs.Calls.{IsOlderPart, StandIn, InOrder, call, merged, longer, shorter}
+use Rattle.ocm_turn.specs.Passes.{all_parts}
 
 module _ {G : Type 0} where
   -- the base is named
@@ -35,13 +36,17 @@ module _ {G : Type 0} where
   abbrev pub IsLegal : (G → List Entry → List Entry → Type 0) → View G → Type 0
   IsLegal legal v = (terms : G) × (v.terms ≡ Some terms) × legal terms v.base v.seen
 
-  -- a new seat beside this one: it has seen the same and made no call
+  -- one part was given away
+  abbrev pub parted : View G → View G
+  parted v = record v { parts = v.parts - 1 }
+
+  -- a new seat beside this one: it has seen the same and made no call, and has one of its parts, where it had more than one
   abbrev pub beside : View G → View G
-  beside v = record v { mine = []; ticket = None; turn = false }
+  beside v = record v { mine = []; ticket = None; turn = false; parts = if nat_lt 1 v.parts then 1 else 0 }
 
   -- both seats in one
   abbrev pub joined : View G → View G → View G
-  joined v w = record v { seen = longer v.seen w.seen; heard = shorter v.seen w.seen; mine = merged v.mine w.mine; met_base = w.base; met_terms = w.terms; drawn = max v.drawn w.drawn }
+  joined v w = record v { seen = longer v.seen w.seen; heard = shorter v.seen w.seen; mine = merged v.mine w.mine; met_base = w.base; met_terms = w.terms; drawn = max v.drawn w.drawn; parts = v.parts + w.parts }
 
   -- what the rule says of a view by itself
   pub record Sound (v : View G) : Type 0 where
@@ -67,13 +72,13 @@ module _ {T G : Type 0} where
   abbrev pub rings : Step (Option T) → Me (Option T) (View G) → ℕ → Me (Option T) (View G) → Type 0
   rings st m r m' = m' ≡ m
 
-  -- a look at word 1 whose turn has come takes the slot
+  -- a look at word 1 whose turn has come takes the slot; a seat that has all parts has made as many calls as are done
   abbrev pub looks : (T → G) → (T → List Entry → List Entry → Type 0) → (G → List Entry → List Entry → Type 0) → Step (Option T) → Me (Option T) (View G) → ℕ → Me (Option T) (View G) → Type 0
   looks terms_of stands legal st m r m' =
       (m.0.ticket ≡ Some r → (x : T) × (history : List Entry) × (m'.0 ≡ turned_to m.0 history) × (m'.1 ≡ (0, Some x) ∷ m.1)
       × (m.0.terms ≡ Some (terms_of x)) × stands x m.0.base history × legal (terms_of x) m.0.base history × IsOlderPart m.0.seen history × (length history ≡ r))
       × (m.0.ticket ≢ Some r → m' ≡ m)
-      × Sound m'.0 × (length m'.0.mine ≤ m.0.limit + 1)
+      × Sound m'.0 × (length m'.0.mine ≤ m.0.limit + 1) × (m.0.parts ≡ all_parts → length m.0.mine ≡ r)
 
   -- a finish, by an add to word 1, gives the slot home
   abbrev pub finishes : Entry → Step (Option T) → Me (Option T) (View G) → ℕ → Me (Option T) (View G) → Type 0

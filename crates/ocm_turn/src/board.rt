@@ -2,8 +2,9 @@ ghost use Rattle.std.specs.Prelude.{◌≡◌, ◌≢◌, ◌<◌, ◌≤◌, �
 ghost use Rattle.ocm_entry.specs.Proper.{is_proper};
 ghost use Rattle.ocm_entry.specs.declared.entries.Entry.{Entry};
 ghost use Rattle.ocm_turn.specs.Calls.{entry, IsOlderPart, StandIn, InOrder};
+ghost use Rattle.ocm_turn.specs.Passes.{all_parts};
 ghost use Rattle.ocm_turn.specs.Rule.{newcomer, IsIdle};
-ghost use Rattle.ocm_turn.specs.Steps.{named, ticketed, found_at, turned_to, finished, called, HasInHand, IsLegal, beside, joined, Sound};
+ghost use Rattle.ocm_turn.specs.Steps.{named, ticketed, found_at, turned_to, finished, called, HasInHand, IsLegal, parted, beside, joined, Sound};
 ghost use Rattle.ocm_turn.specs.declared.view.Stage.TheVariants.{Named};
 
 use crate::rule::{Cut, Draw, Finish, Founded, Glue, Law, Look, Name, Ring, Start, Told};
@@ -12,6 +13,7 @@ use crate::view::View;
 use atomic_table::{Seat, Table};
 use ocm_entry::{Ask, Object, Reply};
 use std::alloc::Global;
+use std::hint::spin_loop;
 use std::marker::Brand;
 use std::snapshot::Snapshot;
 use std::sync::Wait;
@@ -24,6 +26,10 @@ const DONE: usize = 1;
 const BELLS: usize = 2;
 /// How many bells there are. Up to so many callers have each a bell of its own.
 const BELL_COUNT: u64 = 64;
+/// How often a caller looks for its turn before it sleeps.
+const WATCHED: u32 = 2_000;
+/// The bit of a bell that says that a caller sleeps on it, or is about to.
+const ASLEEP: u64 = 1;
 /// The slot of the value.
 const VALUE: usize = 0;
 
@@ -144,18 +150,36 @@ impl<T: Object> Board<T> {
             × (seat.old.me.0.terms ≡ Some (T.terms x)) × T.stands x seat.old.me.0.base history × T.legal (T.terms x) seat.old.me.0.base history
             × IsOlderPart seat.old.me.0.seen history × (length history ≡ ticket) }
         ensures sound { Sound seat.new.me.0 }
+        ensures whole { seat.old.me.0.parts ≡ all_parts → length seat.old.me.0.mine ≡ ticket }
     {
         for _ in rt.forever() {
-            let rung = self.table.shared.peek(bell_of(ticket));
+            let asleep = self.watch(seat, ticket);
             let done = self.table.shared.load::<Look>(seat, DONE);
             if done == ticket {
                 return;
             }
             self.table
                 .shared
-                .park(rt, bell_of(ticket), (rung & 0xffff_ffff) as u32);
+                .park(rt, bell_of(ticket), (asleep & 0xffff_ffff) as u32);
         }
         unreachable!()
+    }
+
+    /// Looks for a while whether the turn of the ticket has come. Where it has not, says at the bell that the caller goes
+    /// to sleep, and answers what the bell shows then.
+    fn watch(&self, seat: &mut Place<T>, ticket: u64) -> u64
+        requires own { (seat.old.table_id ≡ self.now.table.shared.table_id) × (seat.old.me.0.stage ≡ Named) }
+        ensures same { (seat.new.table_id ≡ seat.old.table_id) × (seat.new.me ≡ seat.old.me) }
+    {
+        for _ in 0..WATCHED {
+            if self.table.shared.peek(DONE) == ticket {
+                return 0;
+            }
+            spin_loop();
+        }
+        let bell = bell_of(ticket);
+        let shown = self.table.shared.fetch_or::<Ring>(seat, bell, ASLEEP);
+        shown | ASLEEP
     }
 
     /// Asks the value in the seat's hands. It stays in its slot: nothing of it is moved.
@@ -205,8 +229,11 @@ impl<T: Object> Board<T> {
         ensures same { (seat.new.table_id ≡ seat.old.table_id) × (seat.new.me ≡ seat.old.me) }
     {
         let bell = bell_of(ticket);
-        self.table.shared.fetch_add::<Ring>(seat, bell, 1);
-        self.table.shared.wake_all(bell);
+        let shown = self.table.shared.peek(bell);
+        if shown & ASLEEP != 0 {
+            self.table.shared.fetch_add::<Ring>(seat, bell, 1);
+            self.table.shared.wake_all(bell);
+        }
     }
 
     /// One call: draws a ticket, waits for its turn, and asks the value.
@@ -236,6 +263,7 @@ impl<T: Object> Board<T> {
         ensures history { (history : List Entry) × T.stands result.0 seat.me.0.base history × T.legal (T.terms result.0) seat.me.0.base history
             × IsOlderPart seat.me.0.seen history × (result.1 ≡ length history) × StandIn history seat.me.0.mine }
         ensures order { InOrder seat.me.0.mine }
+        ensures whole { seat.me.0.parts ≡ all_parts → length seat.me.0.mine ≡ result.1 }
         ensures drawn { seat.me.0.drawn ≤ result.1 }
         ensures limit { result.1 ≤ self.now.limit }
     {
@@ -244,10 +272,10 @@ impl<T: Object> Board<T> {
         (self.take_out(seat), calls)
     }
 
-    /// Cuts a seat in two: the new one has seen the same and made no call.
+    /// Cuts a seat in two: the new one has seen the same and made no call, and has one of the parts.
     pub fn split(&self, seat: &mut Place<T>) -> Place<T>
         requires own { (seat.old.table_id ≡ self.now.table.shared.table_id) × IsIdle seat.old.me.0 × (seat.old.me.1 ≡ []) }
-        ensures same { (seat.new.table_id ≡ seat.old.table_id) × (seat.new.me ≡ seat.old.me) }
+        ensures same { (seat.new.table_id ≡ seat.old.table_id) × (seat.new.me ≡ (parted seat.old.me.0, [])) }
         ensures new { (result.table_id ≡ seat.old.table_id) × (result.me ≡ (beside seat.old.me.0, [])) }
     {
         self.table.shared.split_seat::<Cut>(seat)

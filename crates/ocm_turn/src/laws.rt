@@ -1,4 +1,4 @@
-ghost use Rattle.ocm_turn.specs.Laws.{OrderedAreAlone, JoinedStand, JoinedAreAlone, JoinedAreCounted};
+ghost use Rattle.ocm_turn.specs.Laws.{AllCallsAreTheHistory, OrderedAreAlone, JoinedStand, JoinedAreAlone, JoinedAreCounted};
 
 /// Calls that stand in order have each a place of its own.
 pub fn ordered_calls_are_alone()
@@ -19,4 +19,9 @@ pub fn joined_calls_are_alone()
 /// The calls of two passes, joined, are as many as those of both.
 pub fn joined_calls_are_counted()
     ensures { JoinedAreCounted }
+{}
+
+/// Calls that stand in a history, in order, and are as many as its entries, are the whole of it.
+pub fn all_calls_are_the_history()
+    ensures { AllCallsAreTheHistory }
 {}

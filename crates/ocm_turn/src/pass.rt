@@ -7,7 +7,9 @@ use std::marker::Model;
 
 /// A caller's token for one turnstile. It counts its own calls, and a contract sees what it knows:
 /// the base and the terms of the value behind the turnstile, the history up to its last call, its own
-/// calls, and the greatest ticket word that a draw has found.
+/// calls, the greatest ticket word that a draw has found, and its parts. The first pass of a turnstile
+/// has all parts and gives one to each pass that is split off it; a join adds up the parts of both.
+/// A pass that has all parts again is the only one left, and has made every call of the turnstile.
 #[derive(Drop)]
 pub struct Pass<T: Object> {
     pub(crate) seat: Place<T>,
@@ -30,6 +32,7 @@ impl<T: Object> Model for Pass<T> {
       seen = p.seat.me.0.seen;
       mine = p.seat.me.0.mine;
       drawn = p.seat.me.0.drawn;
+      parts = p.seat.me.0.parts;
     } };
 
     ghost invariant = { λ p. IsIdle p.seat.me.0 × (p.seat.me.1 ≡ []) × (length p.seat.me.0.mine ≡ p.calls) × (p.seat.me.0.limit ≤ 2 ^ 63)

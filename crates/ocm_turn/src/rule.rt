@@ -4,7 +4,7 @@ ghost use Rattle.ocm_entry.specs.declared.replies.Reply.TheVariants as replies;
 ghost use Rattle.ocm_entry.specs.declared.entries.Entry.{Entry};
 ghost use Rattle.ocm_turn.specs.Calls.{entry};
 ghost use Rattle.ocm_turn.specs.Rule.{Holds, newcomer, spent_view};
-ghost use Rattle.ocm_turn.specs.Steps.{names, draws, rings, looks, finishes, beside, joined};
+ghost use Rattle.ocm_turn.specs.Steps.{names, draws, rings, looks, finishes, parted, beside, joined};
 
 use crate::view::View;
 use atomic_table::{Join, Play, Split, TableRule};
@@ -92,7 +92,7 @@ impl<T, G, E: Told> Play<Option<T>, View<G>> for Finish<E> {
 pub struct Cut;
 
 impl<G> Split<View<G>> for Cut {
-    ghost left = { λ v. v };
+    ghost left = { parted };
 
     ghost right = { beside };
 }

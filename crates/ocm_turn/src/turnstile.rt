@@ -1,8 +1,8 @@
-ghost use Rattle.std.specs.Prelude.{◌≡◌, ◌<◌, ◌≤◌, ◌^◌, List, [], ◌∷◌, IfOk, IfErr, OnOk, OnErr, IsOkAnd, IsTrue, length, max};
+ghost use Rattle.std.specs.Prelude.{◌≡◌, ◌<◌, ◌≤◌, ◌^◌, List, [], ◌∷◌, IfOk, IfErr, OnOk, OnErr, IsOkAnd, IsTrue, length, max, ◌+◌, ◌-◌};
 ghost use Rattle.ocm_entry.specs.Proper.{is_proper};
 ghost use Rattle.ocm_entry.specs.declared.entries.Entry.{Entry};
 ghost use Rattle.ocm_turn.specs.Calls.{entry, call, IsOlderPart, StandIn, InOrder, longer, merged};
-ghost use Rattle.ocm_turn.specs.Passes.{BelongsTo, SameGround};
+ghost use Rattle.ocm_turn.specs.Passes.{BelongsTo, SameGround, all_parts};
 
 use crate::board::Board;
 use crate::pass::Pass;
@@ -62,6 +62,7 @@ impl<T: Object> Turnstile<T> {
         ensures terms { IfOk result (λ r. r.1.terms ≡ T.terms value) }
         ensures base { IfOk result (λ r. J.known r.1.base × T.stands value r.1.base [] × T.legal r.1.terms r.1.base []) }
         ensures new { IfOk result (λ r. (r.1.seen ≡ []) × (r.1.mine ≡ []) × (r.1.drawn ≡ 0)) }
+        ensures whole { IfOk result (λ r. r.1.parts ≡ all_parts) }
         ensures err { IfErr result (λ v. v ≡ value) }
     {
         match Board::make::<J>(alloc, value, limit) {
@@ -75,7 +76,7 @@ impl<T: Object> Turnstile<T> {
     pub fn call<R: Wait>(&self, rt: &R, pass: &mut Pass<T>, ask: Ask) -> Result<Reply, Spent>
         requires own { BelongsTo self.now pass.old }
         requires proper { IsTrue (is_proper ask) }
-        ensures ground { SameGround pass.old pass.new }
+        ensures ground { SameGround pass.old pass.new × (pass.new.parts ≡ pass.old.parts) }
         ensures seen { IfOk result (λ r. (before : List Entry) × (pass.new.seen ≡ entry ask r ∷ before)
             × IsOlderPart pass.old.seen before × (length before ≡ pass.new.drawn)) }
         ensures legal { T.legal pass.new.terms pass.new.base pass.new.seen }
@@ -91,20 +92,22 @@ impl<T: Object> Turnstile<T> {
         Ok(reply)
     }
 
-    /// A pass for another caller, which knows what this one knows and has made no call. It takes no
-    /// memory, and so never answers [`NoMemory`].
+    /// A pass for another caller, which knows what this one knows and has made no call. This one gives
+    /// it one of its parts; where it has no more than one, that one is lost, and no pass of the turnstile
+    /// has all parts ever again. It takes no memory, and so never answers [`NoMemory`].
     pub fn split(&self, pass: &mut Pass<T>) -> Result<Pass<T>, NoMemory>
         requires own { BelongsTo self.now pass.old }
-        ensures same { pass.new ≡ pass.old }
+        ensures same { pass.new ≡ record pass.old { parts = pass.old.parts - 1 } }
         ensures own { IsOkAnd result (λ p. BelongsTo self.now p) }
         ensures ground { IfOk result (λ p. SameGround pass.old p) }
         ensures new { IfOk result (λ p. (p.seen ≡ pass.old.seen) × (p.mine ≡ []) × (p.drawn ≡ pass.old.drawn)) }
+        ensures part { 1 < pass.old.parts → IfOk result (λ p. p.parts ≡ 1) }
     {
         let seat = self.board.split(&mut pass.seat);
         Ok(Pass { seat, calls: 0 })
     }
 
-    /// One pass of two, which knows what both knew and has made the calls of both.
+    /// One pass of two, which knows what both knew, has made the calls of both and has the parts of both.
     pub fn join(&self, pass: &mut Pass<T>, other: Pass<T>)
         requires own { BelongsTo self.now pass.old × BelongsTo self.now other }
         ensures ground { SameGround pass.old pass.new }
@@ -115,19 +118,22 @@ impl<T: Object> Turnstile<T> {
         ensures mine { pass.new.mine ≡ merged pass.old.mine other.mine }
         ensures stand { StandIn pass.new.seen pass.new.mine × InOrder pass.new.mine }
         ensures drawn { pass.new.drawn ≡ max pass.old.drawn other.drawn }
+        ensures parts { pass.new.parts ≡ pass.old.parts + other.parts }
     {
         let Pass { seat, calls } = other;
         self.board.join(&mut pass.seat, seat);
         pass.calls += calls;
     }
 
-    /// The end: waits until every call whose ticket was drawn is done, and gives the value back.
+    /// The end: waits until every call whose ticket was drawn is done, and gives the value back. A pass
+    /// that has all parts made all calls.
     pub fn close<R: Wait>(self, rt: &R, pass: Pass<T>) -> Shut<T>
         requires own { BelongsTo self pass }
         ensures terms { T.terms result.value ≡ pass.terms }
         ensures history { (history : List Entry) × T.stands result.value pass.base history × T.legal pass.terms pass.base history
             × IsOlderPart pass.seen history × StandIn history pass.mine × (result.calls ≡ length history) }
         ensures order { InOrder pass.mine }
+        ensures whole { pass.parts ≡ all_parts → length pass.mine ≡ result.calls }
         ensures drawn { pass.drawn ≤ result.calls }
         ensures limit { result.calls ≤ self.limit }
     {

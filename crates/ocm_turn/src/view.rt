@@ -34,4 +34,6 @@ pub struct View<G> {
     pub ticket: Option<u64>,
     pub turn: bool,
     pub drawn: u64,
+    /// The seat's parts of the right to know the whole: who has all of them has made every call.
+    pub parts: u128,
 }

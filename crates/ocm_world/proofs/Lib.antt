@@ -1,5 +1,6 @@
 pub mod Worlds
 pub mod Loading
+pub mod Growing
 pub mod Storing
 pub mod Shelving
 pub mod Hosts

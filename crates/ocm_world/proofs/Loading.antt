@@ -1,7 +1,6 @@
 -- Servers that are loaded from their disks, and what is read of them.
-use Rattle.std.proofs.Common.{◌≡◌, ◌⊎◌, inl, inr, ℕ, List, [], ◌∷◌, ◌++◌, Bool, true, false, Option, Some, None, refl, sym, ◌∙◌, ap, subst, rules, Result, Ok}
+use Rattle.std.proofs.Common.{◌≡◌, inl, inr, ℕ, List, [], ◌++◌, Bool, true, false, Option, Some, None, refl, sym, ◌∙◌, ap, subst, rules, Result, Ok}
 use Rattle.std.specs.Prelude.{option_map}
-use Rattle.std.specs.Option.{option_or}
 use Rattle.ocm_disk.specs.Memory.{DiskState, ImagesState, left_by, settled}
 use Rattle.ocm_disk.specs.Past.{Leaves}
 use Rattle.ocm_disk.specs.contracts.memory.MemDiskDisk.TheImpl.{ghosts}
@@ -9,29 +8,34 @@ use Rattle.ocm_disk.specs.declared.crashes.Crash.{Crash}
 use Rattle.ocm_disk.specs.declared.crashes.Crash.TheVariants.{Old, New, Torn}
 use Rattle.ocm_entry.specs.declared.asks.Ask.{Ask}
 use Rattle.ocm_entry.specs.declared.entries.Entry.{Entry}
+use Rattle.ocm_image.specs.declared.blanks.Blank.TheVariants.{Empty}
 use Rattle.ocm_image.specs.Blank.{IsBlank}
 use Rattle.ocm_image.specs.Layout.{IsImage}
+use Rattle.ocm_journal.specs.Journals.{selects_first}
+use Rattle.ocm_journal.specs.LiveAreas.{BeginsWith, IsImageLive, LiveArea}
+use Rattle.ocm_journal.proofs.LiveAreas.{live_is_selected}
 use Rattle.ocm_rules.specs.History.{IsLegal, kept}
 use Rattle.ocm_rules.specs.Lean.{count, lean}
 use Rattle.ocm_rules.specs.Messages.{as_sent, out}
 use Rattle.ocm_rules.specs.Numbers.{at_number}
 use Rattle.ocm_rules.specs.Shares.{moment}
 use Rattle.ocm_rules.specs.Views.{View}
-use Rattle.ocm_law_lean.proofs.Answered.{lean-goes_on}
 use Rattle.ocm_law_lean.proofs.Thin.{count-same}
-use Rattle.ocm_law_sessions.specs.Crashes.{HasLeanWith, faulted}
-use Rattle.ocm_law_sessions.specs.Sessions.{heard}
-use Rattle.ocm_law_sessions.proofs.Replying.{heard-same, view-same}
+use Rattle.ocm_law_sessions.specs.Crashes.{faulted}
+use Rattle.ocm_law_sessions.specs.Sessions.{fault_in}
+use Rattle.ocm_law_sessions.proofs.Replying.{lean-heard, view-same}
 use Rattle.ocm_store.specs.Opening.{IsNoDiskFault, IsOfArea, IsSaidBy, OpensTo, loading}
 use Rattle.ocm_store.specs.declared.load_faults.LoadFault.{LoadFault}
 use Rattle.ocm_store.specs.declared.load_faults.LoadFault.TheVariants.{DiskFault, NoMemory, NotJournal, OtherHost}
-use Rattle.ocm_store.specs.Stores.{LeavesNext, Stands, disk_of, host_of, terms_of}
+use Rattle.ocm_store.specs.Growing.{HasLiveArea, OpensLive}
+use Rattle.ocm_store.specs.Stores.{IsWritten, LeavesNext, Stands, area_of, disk_of, host_of, terms_of}
 use Rattle.ocm_store.specs.declared.stores.Store.{Store}
 use Rattle.ocm_store.specs.declared.terms.Terms.{Terms}
+use Rattle.ocm_store.proofs.Journaling.{live-opens}
 use Rattle.ocm_store.proofs.Opens.{areas-same, opens-loaded, opens-once}
 use Rattle.ocm_image.proofs.OneImage.{blank_is_none}
 use Rattle.ocm_world.specs.declared.nodes.Node.{Node}
-use Rattle.ocm_world_lines.specs.Servers.{Server, area, crashed, history, kept_by_crash, message_of, new_server}
+use Rattle.ocm_world_lines.specs.Servers.{Server, area, history, is_kept, kept_by_crash, live_left, message_of, new_live, new_server, restart}
 use Rattle.ocm_world_lines.specs.Running.{IsSound}
 use Rattle.ocm_world.specs.Running.{IsDiskOf, IsLoaded, IsOf}
 use Rattle.ocm_world_lines.proofs.Acting.{alike-after}
@@ -68,36 +72,60 @@ wants-memory host own bytes fault same is said passed =
     let list = own_list host bytes is in
     one_fault (loading own area bytes) list.0 fault (ap (λ h. loading h area bytes) same ∙ opens-loaded host area list.0 bytes list.1) said passed
 
--- ---- a new server
-
-blank_disk : (host : List ℕ) → IsBlank host area []
-blank_disk host = search rules
-
-pub new-of : (node : Node) (host : List ℕ) → IsLoaded [] host 0 node → IsOf node (new_server host)
-new-of node host loaded = record {
-  host = loaded.host;
-  clock = loaded.clock;
-  terms = loaded.terms;
-  opened = loaded.opened;
-  stands = loaded.stands;
-  legal = loaded.legal;
-  alike = ap (λ k. lean host k) (opens-once host area loaded.opened [] [] loaded.opens (inl (blank_disk host, refl)));
-  sound = λ _. loaded.sound;
-}
-
--- ---- a crash
+-- ---- what a crash leaves
 
 left_leaves : (mode : Crash) (images : ImagesState) → Leaves images (left_by mode images)
 left_leaves Old images = inr (inl refl)
 left_leaves New images = inl refl
 left_leaves Torn images = inr (inr refl)
 
-kept-next : (host : List ℕ) (g other : List Entry) (faulted : Option Ask) (next : List Entry) → lean host g ≡ lean host other
-    → (lean host next ≡ lean host g) ⊎ HasLeanWith host g (option_or faulted None) next → (keeps : Bool) × (lean host next ≡ lean host (kept_by_crash keeps host faulted other))
-kept-next host g other faulted next same (inl is) = (false, is ∙ same)
-kept-next host g other None next same (inr is) = absurd is
-kept-next host g other (Some ask) next same (inr is) =
-    (true, is ∙ ap (λ e. lean host (e ∷ g)) (heard-same host g other ask same) ∙ lean-goes_on host (heard host other ask) g other same)
+-- of a disk of which a crash leaves what it reads
+pub crash-live : (store : Store DiskState ghosts) (host : List ℕ) (g : List Entry) (live : LiveArea) (mode : Crash) → area_of store ≡ area → HasLiveArea ghosts host live store → IsWritten ghosts host g store.journal
+    → OpensLive host area g live (left_by mode (disk_of store).images)
+crash-live store host g live mode size has written =
+    let bytes : List ℕ = left_by mode (disk_of store).images in
+    let same : bytes ≡ ghosts.seen (disk_of store) = has.holds.durable bytes (left_leaves mode (disk_of store).images) in
+    let selected : selects_first host (ghosts.seen (disk_of store)) ≡ live.first = sym (live_is_selected ghosts host live.records store.journal has.holds) ∙ has.first in
+    let image : IsImageLive host area live (ghosts.seen (disk_of store)) =
+    (subst (λ (z : ℕ × ℕ). IsImage host z.0 z.1 live.records (ghosts.seen (disk_of store))) (λ i. (size i, has.form i)) has.holds.image, selected) in
+    subst (OpensLive host area g live) (sym same) (image, (written.list, live-opens ghosts host g store.journal live has written, written.same))
+
+-- of a store that did not fail
+pub crash-stands : (store : Store DiskState ghosts) (host : List ℕ) (k h : List Entry) (live : LiveArea) (mode : Crash) → terms_of store ≡ record { host = host; area = area } → fault_in h ≡ None
+    → HasLiveArea ghosts host live store → Stands ghosts store k h → OpensLive host area (h ++ k) live (left_by mode (disk_of store).images)
+crash-stands store host k h live mode terms fine has stands =
+    let own : host_of store ≡ host = ap (λ (t : Terms). t.host) terms in
+    crash-live store host (h ++ k) live mode (ap (λ (t : Terms). t.area) terms) has (subst (λ x. IsWritten ghosts x (h ++ k) store.journal) own (stands.written tt (sym stands.fault ∙ fine)))
+
+-- ---- a new server
+
+blank_disk : (host : List ℕ) → IsBlank host area []
+blank_disk host = search rules
+
+pub new-of : (node : Node) (host : List ℕ) → IsLoaded [] host 0 node → IsOf node (new_server host)
+new-of node host loaded =
+    let has = loaded.live new_live (inr (Empty, refl, refl)) in
+    record {
+      host = loaded.host;
+      clock = loaded.clock;
+      terms = loaded.terms;
+      opened = loaded.opened;
+      stands = loaded.stands;
+      legal = loaded.legal;
+      alike = ap (λ k. lean host k) (opens-once host area loaded.opened [] [] loaded.opens (inl (blank_disk host, refl)));
+      sound = λ _. loaded.sound;
+      live = λ _. has;
+      uncut = λ _. refl;
+      crash = λ mode. crash-stands node.store host loaded.opened [] new_live mode loaded.terms refl has loaded.stands;
+    }
+
+-- ---- a crash
+
+-- what a crash keeps of lists with the same lean list has the same
+pub kept-alike : (keeps : Bool) (host : List ℕ) (faulted : Option Ask) (g other : List Entry) → lean host g ≡ lean host other → lean host (kept_by_crash keeps host faulted g) ≡ lean host (kept_by_crash keeps host faulted other)
+kept-alike true host (Some ask) g other same = lean-heard host g other ask same
+kept-alike true host None g other same = same
+kept-alike false host faulted g other same = same
 
 -- what a crash leaves of a server's disk
 left-by : (node : Node) (server : Server) (mode : Crash) (is : IsOf node server)
@@ -109,26 +137,32 @@ left-by node server mode is =
 -- what a crash leaves of a server, loaded again
 pub crashed-of : (node after : Node) (server : Server) (mode : Crash) (disk : DiskState) (limit : ℕ) → IsOf node server
     → disk ≡ settled (left_by mode (disk_of node.store).images) limit → IsLoaded disk.images.seen node.host node.clock after
-    → (keeps : Bool) × IsOf after (crashed keeps server)
+    → IsOf after (restart mode server)
 crashed-of node after server mode disk limit is left loaded =
     let bytes : List ℕ = left_by mode (disk_of node.store).images in
-    let leaves = left-by node server mode is in
-    let opens : OpensTo server.host area loaded.opened bytes =
-    subst (λ (z : List ℕ × List ℕ). OpensTo z.0 area loaded.opened z.1) (λ i. (is.host i, ap (λ (d : DiskState). d.images.seen) left i)) loaded.opens in
-    let one : leaves.0 ≡ loaded.opened = opens-once server.host area leaves.0 loaded.opened bytes (inr (area, leaves.1)) opens in
-    let kept_is = kept-next server.host (server.calls ++ is.opened) (history server) (faulted server.calls) leaves.0 (alike-history node server is) leaves.2.1 in (
-      kept_is.0,
-      record {
-        host = loaded.host ∙ is.host;
-        clock = loaded.clock ∙ is.clock;
-        terms = loaded.terms ∙ ap (λ h. let t : Terms = record { host = h; area = area } in t) is.host;
-        opened = loaded.opened;
-        stands = loaded.stands;
-        legal = subst (λ h. IsLegal h loaded.opened) is.host loaded.legal;
-        alike = ap (λ k. lean server.host k) (sym one) ∙ kept_is.1;
-        sound = λ _. loaded.sound;
-      },
-    )
+    let keeps : Bool = is_kept mode server.cut in
+    let live : LiveArea = live_left keeps server.cut server.live in
+    let there = is.crash mode in
+    let pair : List ℕ → List ℕ → List ℕ × List ℕ = λ a b. (a, b) in
+    let own : pair node.host disk.images.seen ≡ pair server.host bytes = λ i. (is.host i, ap (λ (d : DiskState). d.images.seen) left i) in
+    let opens : OpensTo server.host area loaded.opened bytes = subst (λ (z : List ℕ × List ℕ). OpensTo z.0 area loaded.opened z.1) own loaded.opens in
+    let begins = subst (λ (z : List ℕ × List ℕ). (l : LiveArea) → BeginsWith z.0 area z.1 l → HasLiveArea ghosts z.0 l after.store) own loaded.live in
+    let has : HasLiveArea ghosts server.host live after.store = begins live (inl (area, there.0)) in
+    let one : there.1.0 ≡ loaded.opened = opens-once server.host area there.1.0 loaded.opened bytes (inr (area, (live.form, live.records, there.0.0, there.1.1))) opens in
+    let terms : terms_of after.store ≡ record { host = server.host; area = area } = loaded.terms ∙ ap (λ h. let t : Terms = record { host = h; area = area } in t) is.host in
+    record {
+      host = loaded.host ∙ is.host;
+      clock = loaded.clock ∙ is.clock;
+      terms = terms;
+      opened = loaded.opened;
+      stands = loaded.stands;
+      legal = subst (λ h. IsLegal h loaded.opened) is.host loaded.legal;
+      alike = ap (λ k. lean server.host k) (sym one) ∙ there.1.2 ∙ kept-alike keeps server.host (faulted server.calls) (server.calls ++ is.opened) (history server) (alike-history node server is);
+      sound = λ _. loaded.sound;
+      live = λ _. has;
+      uncut = λ _. refl;
+      crash = λ m. crash-stands after.store server.host loaded.opened [] live m terms refl has loaded.stands;
+    }
 
 -- what a crash leaves of a server's disk is a disk of its own
 pub crashed-own : (node : Node) (server : Server) (mode : Crash) (disk : DiskState) (limit : ℕ) → IsOf node server
@@ -152,8 +186,9 @@ new-sound disk limit is = subst (λ (d : DiskState). IsSound d None) (sym is) (r
 -- with another fuse
 pub fused-of : (node : Node) (server : Server) (new : Store DiskState ghosts) (calls : ℕ) → IsOf node server
     → disk_of new ≡ record (disk_of node.store) { fuse = Some calls } → terms_of new ≡ terms_of node.store
-    → ((k h : List Entry) → Stands ghosts node.store k h → Stands ghosts new k h) → IsOf (record node { store = new }) (record server { fuse = Some calls })
-fused-of node server new calls is disk terms stands = record {
+    → ((k h : List Entry) → Stands ghosts node.store k h → Stands ghosts new k h) → ((host : List ℕ) (live : LiveArea) → HasLiveArea ghosts host live node.store → HasLiveArea ghosts host live new)
+    → IsOf (record node { store = new }) (record server { fuse = Some calls })
+fused-of node server new calls is disk terms stands live = record {
   host = is.host;
   clock = is.clock;
   terms = terms ∙ is.terms;
@@ -162,6 +197,11 @@ fused-of node server new calls is disk terms stands = record {
   legal = is.legal;
   alike = is.alike;
   sound = λ none. subst (λ (d : DiskState). IsSound d (Some calls)) (sym disk) (record { fuse = refl; faults = (is.sound none).faults });
+  live = λ none. live server.host server.live (is.live none);
+  uncut = is.uncut;
+  crash = λ mode.
+      subst (λ (images : ImagesState). OpensLive server.host area (kept_by_crash (is_kept mode server.cut) server.host (faulted server.calls) (server.calls ++ is.opened)) (live_left (is_kept mode server.cut) server.cut server.live) (left_by mode images))
+      (sym (ap (λ (d : DiskState). d.images) disk)) (is.crash mode);
 }
 
 pub clocked-of : (node : Node) (server : Server) (clock : ℕ) → IsOf node server → IsOf (record node { clock = clock }) (record server { clock = clock })
@@ -174,6 +214,9 @@ clocked-of node server clock is = record {
   legal = is.legal;
   alike = is.alike;
   sound = is.sound;
+  live = is.live;
+  uncut = is.uncut;
+  crash = is.crash;
 }
 
 -- ---- what is read

@@ -1,17 +1,22 @@
 -- For which servers the stores of this crate stand. A reader of the transcript needs none of it.
-use Rattle.std.specs.Prelude.{◌≡◌, ◌⊎◌, ℕ, List, [], ◌∷◌, Bool, Some, None}
+use Rattle.std.specs.Prelude.{◌≡◌, ◌⊎◌, ℕ, List, [], ◌∷◌, ◌++◌, Bool, Some, None}
+use Rattle.ocm_disk.specs.Memory.{left_by}
 use Rattle.ocm_disk.specs.contracts.memory.MemDiskDisk.TheImpl.{ghosts}
+use Rattle.ocm_disk.specs.declared.crashes.Crash.{Crash}
 use Rattle.ocm_disk.specs.declared.shelf.Place.{Place}
 use Rattle.ocm_entry.specs.declared.entries.Entry.{Entry}
 use Rattle.ocm_image.specs.Blank.{IsBlank}
+use Rattle.ocm_journal.specs.LiveAreas.{BeginsWith, LiveArea}
 use Rattle.ocm_rules.specs.Lean.{lean}
 use Rattle.ocm_rules.specs.Numbers.{same_text}
+use Rattle.ocm_law_sessions.specs.Crashes.{faulted}
 use Rattle.ocm_law_sessions.specs.Sessions.{IsSession, fault_in}
+use Rattle.ocm_store.specs.Growing.{HasLiveArea, OpensLive}
 use Rattle.ocm_store.specs.Opening.{IsImageIn, OpensTo}
 use Rattle.ocm_store.specs.Stores.{Stands, disk_of, terms_of}
 use Rattle.ocm_world.specs.declared.nodes.Node.{Node}
 use Rattle.ocm_world_lines.specs.Running.{IsSound}
-use Rattle.ocm_world_lines.specs.Servers.{Server, World, area}
+use Rattle.ocm_world_lines.specs.Servers.{Server, World, area, is_kept, kept_by_crash, live_left}
 
 -- The store of one server stands for it: its calls are the same, and what it opened to has the same lean list.
 pub record IsOf (node : Node) (server : Server) : Type 0 where
@@ -23,6 +28,11 @@ pub record IsOf (node : Node) (server : Server) : Type 0 where
   pub legal : IsSession server.host area opened server.calls
   pub alike : lean server.host opened ≡ lean server.host server.base
   pub sound : fault_in server.calls ≡ None → IsSound (disk_of node.store) server.fuse
+  -- where its disk did not fail in this session, its journal has the server's live area
+  pub live : fault_in server.calls ≡ None → HasLiveArea ghosts server.host server.live node.store
+  pub uncut : fault_in server.calls ≡ None → server.cut ≡ None
+  -- what a crash leaves of its disk is an image with the live area that the server then has, which opens to what it then keeps
+  pub crash : (mode : Crash) → OpensLive server.host area (kept_by_crash (is_kept mode server.cut) server.host (faulted server.calls) (server.calls ++ opened)) (live_left (is_kept mode server.cut) server.cut server.live) (left_by mode (disk_of node.store).images)
 
 -- whether this is the server of this host
 abbrev pub is_at : List ℕ → Node → Bool
@@ -49,6 +59,7 @@ pub record IsLoaded (bytes own : List ℕ) (time : ℕ) (node : Node) : Type 0 w
   pub stands : Stands ghosts node.store opened []
   pub legal : IsSession own area opened []
   pub sound : IsSound (disk_of node.store) None
+  pub live : (live : LiveArea) → BeginsWith own area bytes live → HasLiveArea ghosts own live node.store
 
 -- A disk of these bytes is that of a script's server: it is blank, or an image with areas of the size of a script's, whose records open to a list.
 abbrev pub IsDiskOf : List ℕ → List ℕ → Type 0

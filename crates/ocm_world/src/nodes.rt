@@ -1,9 +1,9 @@
 //! A server of a script, and how it is loaded from its disk.
-ghost use Rattle.std.specs.Prelude.{◌≡◌, Bool, IfOk, None, Some, option_copied};
+ghost use Rattle.std.specs.Prelude.{◌≡◌, IfOk, None, Some, option_copied};
 ghost use Rattle.ocm_rules.specs.Lean.{count};
 ghost use Rattle.ocm_world.specs.Running.{IsDiskOf, IsLoaded, IsOf, is_at};
 ghost use Rattle.ocm_world_lines.specs.Running.{IsSound, state_of};
-ghost use Rattle.ocm_world_lines.specs.Servers.{Server, crashed, history, message_of};
+ghost use Rattle.ocm_world_lines.specs.Servers.{Server, history, message_of, restart};
 ghost use Rattle.ocm_store.specs.Stores.{disk_of};
 
 use ocm_base::{NoMemory, and};
@@ -144,7 +144,7 @@ impl Node {
     /// What a crash leaves of it, loaded again.
     pub fn restart(self, alloc: Global, left: Crash) -> Result<Node, NoMemory>
         requires { (server : Server) × IsOf self server }
-        ensures { IfOk result (λ node. (server : Server) → IsOf self server → (keeps : Bool) × IsOf node (crashed keeps server)) }
+        ensures { IfOk result (λ node. (server : Server) → IsOf self server → IsOf node (restart left server)) }
     {
         let Node { host, store, clock } = self;
         let node = load(alloc, store.into_disk().crash(left), &host, clock);

@@ -18,7 +18,7 @@ use Rattle.ocm_dav.specs.declared.configs.Config.{Config}
 use Rattle.ocm_dav.specs.declared.wants.Wanted.{Wanted}
 use Rattle.ocm_dav.specs.declared.wants.Wanted.TheVariants as wants
 use Rattle.ocm_world_lines.specs.Asked.{ask_of}
-use Rattle.ocm_world_lines.specs.Servers.{Server, World, asked_at, crashed, message_at, reply_at, server_after, server_at, step_at}
+use Rattle.ocm_world_lines.specs.Servers.{Server, World, asked_at, message_at, reply_at, restart, server_after, server_at, step_at}
 use Rattle.ocm_world_lines.specs.Deliveries.{Run, all_delivered, answered, deliver, delivered, given, next_wanting, nothing, others_wanting, pump, pumped, unreachable}
 use Rattle.ocm_world_lines.specs.Talks as talks
 use Rattle.ocm_world_lines.specs.Talks.{Answers, Says, after_tick, asked_of, is_done, replied}
@@ -162,7 +162,7 @@ line-stays wanting world n (events.Clock at clock) host there =
 line-stays wanting world n (events.Deliver at m fresh lost) host there = deliver-stays wanting world n at m fresh lost host there
 line-stays wanting world n (events.Pump at fresh) host there = pump-stays wanting world n at fresh host there
 line-stays wanting world n (events.Fuse at calls) host there = step-stays (λ (s : Server). record s { fuse = Some calls }) world at host (λ s e. e) there
-line-stays wanting world n (events.Crash at left) host there = step-stays (crashed (next_wanting wanting)) world at host (λ s e. e) there
+line-stays wanting world n (events.Crash at left) host there = step-stays (restart left) world at host (λ s e. e) there
 line-stays wanting world n e host there = plain-stays (next_wanting wanting) world n e (host_of e) (ask_of e) host there
 
 run-stays : (world : World) (n : ℕ) (e : Event) (line : Run) (host : List ℕ) → IsRun world n e line → Stays host world line.world

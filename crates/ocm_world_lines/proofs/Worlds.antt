@@ -2,11 +2,12 @@
 use Rattle.std.proofs.Common.{◌≡◌, ℕ, List, [], ◌∷◌, Bool, true, false, Option, Some, None, refl, sym, ◌∙◌, ap, if◌then◌else◌}
 use Rattle.std.specs.Option.{option_map_or}
 use Rattle.std.specs.Prelude.{option_map, option_and_then, unwrap_or}
+use Rattle.ocm_disk.specs.declared.crashes.Crash.{Crash}
 use Rattle.ocm_entry.specs.declared.asks.Ask.{Ask}
 use Rattle.ocm_rules.specs.Lean.{count}
 use Rattle.ocm_rules.specs.Numbers.{same_text}
 use Rattle.ocm_world_lines.specs.Running.{state_at, state_of}
-use Rattle.ocm_world_lines.specs.Servers.{Server, World, asked_at, crashed, history, message_at, message_of, reply_at, reply_of, server_after, server_at, step_at}
+use Rattle.ocm_world_lines.specs.Servers.{Server, World, asked_at, history, message_at, message_of, reply_at, reply_of, restart, server_after, server_at, step_at}
 use Rattle.ocm_world_lines.specs.Transcript.{kept_at}
 
 none_here : (b : Bool) (server : Server) (found : Option Server) (one : Server) (others after : World) → (found ≡ None → after ≡ others) → (if b then Some server else found) ≡ None → (if b then one ∷ others else server ∷ after) ≡ server ∷ others
@@ -36,10 +37,10 @@ pub message-nowhere : (world : World) (host : List ℕ) (m : ℕ) → server_at 
 message-nowhere world host m none = sym (ap (λ (found : Option Server). option_and_then (λ (s : Server). message_of s m) found) none)
 
 -- how many entries a server keeps after a crash is told of the one of this host
-pub kept-found : (keeps : Bool) (world : World) (host : List ℕ) (server : Server) (number : ℕ) → number ≡ count (crashed keeps server).host (history (crashed keeps server))
-    → server_at world host ≡ Some server → Some number ≡ kept_at keeps world host
-kept-found keeps world host server number is there =
-    ap Some is ∙ sym (ap (option_map (λ (s : Server). count (crashed keeps s).host (history (crashed keeps s)))) there)
+pub kept-found : (left : Crash) (world : World) (host : List ℕ) (server : Server) (number : ℕ) → number ≡ count (restart left server).host (history (restart left server))
+    → server_at world host ≡ Some server → Some number ≡ kept_at left world host
+kept-found left world host server number is there =
+    ap Some is ∙ sym (ap (option_map (λ (s : Server). count s.host (history (restart left s)))) there)
 
 -- how many entries a server keeps and its moment are told of the one of this host
 pub state-found : (server : Server) (world : World) (host : List ℕ) → server_at world host ≡ Some server → Some (state_of server) ≡ state_at world host

@@ -1,5 +1,8 @@
 -- The servers of a script, each with its session: what its disk opened to, and the calls since. Histories stand newest first.
-use Rattle.std.specs.Prelude.{ℕ, ◌-◌, List, [], ◌∷◌, ◌++◌, nat_lt, Bool, true, false, not, ◌&&◌, if◌then◌else◌, Option, Some, None, option_and_then, option_map}
+use Rattle.std.specs.Prelude.{ℕ, ◌-◌, ◌==◌, List, [], ◌∷◌, ◌++◌, nat_lt, Bool, true, false, not, ◌&&◌, if◌then◌else◌, Option, Some, None, option_and_then, option_map, unwrap_or}
+use Rattle.ocm_disk.specs.declared.crashes.Crash.{Crash}
+use Rattle.ocm_disk.specs.declared.crashes.Crash.TheVariants.{Old, New, Torn}
+use Rattle.ocm_journal.specs.LiveAreas.{LiveArea, goes_to_second, grown}
 use Rattle.ocm_limits.specs.Limits.{replayed_area_bytes}
 use Rattle.ocm_types.specs.declared.letters.Numbered.{Numbered}
 use Rattle.ocm_entry.specs.declared.asks.Ask.{Ask}
@@ -7,18 +10,28 @@ use Rattle.ocm_entry.specs.declared.replies.Reply.{Reply}
 use Rattle.ocm_entry.specs.declared.replies.Reply.TheVariants.{JournalFull, NoMemory, DiskFault, Stopped}
 use Rattle.ocm_entry.specs.declared.entries.Entry.{Entry}
 use Rattle.ocm_rules.specs.History.{answer, is_failure, kept}
+use Rattle.ocm_rules.specs.Lean.{lean}
 use Rattle.ocm_rules.specs.Messages.{as_sent, out}
 use Rattle.ocm_rules.specs.Numbers.{at_number, same_text}
 use Rattle.ocm_law_sessions.specs.Crashes.{faulted}
-use Rattle.ocm_law_sessions.specs.Sessions.{fault_in, fits, heard, would_change}
+use Rattle.ocm_law_sessions.specs.Sessions.{count_of, fault_in, fits, heard, would_change}
+use Rattle.ocm_law_sessions.specs.Written.{record_of, records_of}
 
--- a server of a script: its host; the history that its disk opened to, and the calls since; how many device calls its disk still makes, where a `fuse` line bounds them; and what the last `clock` line told
+-- a change within which a disk failed: how many of its four device calls passed, whether it was to make the second area of the journal live, and the live area that it was to make
+pub record CutShort : Type 0 where
+  pub passed : ℕ
+  pub to_second : Bool
+  pub live : LiveArea
+
+-- a server of a script: its host; the history that its disk opened to, and the calls since; how many device calls its disk still makes, where a `fuse` line bounds them; what the last `clock` line told; the live area of its journal, as it was before its disk failed, where it did; and the change within which it failed
 pub record Server : Type 0 where
   pub host : List ℕ
   pub base : List Entry
   pub calls : List Entry
   pub fuse : Option ℕ
   pub clock : ℕ
+  pub live : LiveArea
+  pub cut : Option CutShort
 
 -- the whole history of a server
 abbrev pub history : Server → List Entry
@@ -32,9 +45,13 @@ area = replayed_area_bytes
 abbrev pub World : Type 0
 World = List Server
 
+-- the live area of a new journal: the first, without records
+abbrev pub new_live : LiveArea
+new_live = record { first = true; form = 2; records = [] }
+
 -- a server before its first call, on an empty disk
 abbrev pub new_server : List ℕ → Server
-new_server host = record { host = host; base = []; calls = []; fuse = None; clock = 0 }
+new_server host = record { host = host; base = []; calls = []; fuse = None; clock = 0; live = new_live; cut = None }
 
 -- ---- replies
 
@@ -66,6 +83,28 @@ abbrev pub fuse_after : Bool → Option ℕ → Option ℕ
 fuse_after true fuse = option_map (λ left. left - 4) fuse
 fuse_after false fuse = fuse
 
+-- the live area once an ask with its answer is written behind a history: its record goes behind the others where it has room, and only where it has none are the records of the whole lean list written into the other area
+abbrev pub grown_by : List ℕ → List Entry → Ask → LiveArea → LiveArea
+grown_by host g ask live = grown area live (record_of live.form (kept host g) (heard host g ask)) (records_of (lean host (heard host g ask ∷ g)))
+
+-- ... and after a call that made a change, or that made none
+abbrev pub live_after : Bool → List ℕ → List Entry → Ask → LiveArea → LiveArea
+live_after true host g ask live = grown_by host g ask live
+live_after false host g ask live = live
+
+-- the change that an ask was to make of a server when its disk failed
+abbrev pub cut_of : Server → Ask → CutShort
+cut_of server ask = record {
+  passed = unwrap_or server.fuse 0;
+  to_second = goes_to_second area server.live (record_of server.live.form (kept server.host (history server)) (heard server.host (history server) ask));
+  live = grown_by server.host (history server) ask server.live;
+}
+
+-- the change within which its disk failed, after a reply that told so, or that did not
+abbrev pub cut_after : Option ℕ → Server → Ask → Option CutShort
+cut_after (Some count) server ask = Some (cut_of server ask)
+cut_after None server ask = server.cut
+
 -- the server with an ask and its reply behind its calls
 abbrev pub with_call : Server → Ask → Reply → Server
 with_call server ask reply = record {
@@ -74,6 +113,8 @@ with_call server ask reply = record {
   calls = record { ask = ask; reply = reply } ∷ server.calls;
   fuse = fuse_after (would_change server.host (history server) ask && not (is_failure reply)) server.fuse;
   clock = server.clock;
+  live = live_after (would_change server.host (history server) ask && not (is_failure reply)) server.host (history server) ask server.live;
+  cut = cut_after (count_of reply) server ask;
 }
 
 -- the server after an ask
@@ -88,6 +129,23 @@ kept_by_crash true host (Some ask) g = heard host g ask ∷ g
 kept_by_crash true host None g = g
 kept_by_crash false host faulted g = g
 
+-- whether a crash keeps the ask within whose change the disk failed: where three of its calls passed and all that was written is left, or what was written since the last sync is torn and the change made the second area live, as any selector but 01 does
+abbrev pub keeps : Crash → CutShort → Bool
+keeps Old cut = false
+keeps New cut = cut.passed == 3
+keeps Torn cut = (cut.passed == 3) && cut.to_second
+
+-- the same of a server, whose disk failed or did not
+abbrev pub is_kept : Crash → Option CutShort → Bool
+is_kept mode None = false
+is_kept mode (Some cut) = keeps mode cut
+
+-- the live area after a crash: that of the change within which the disk failed, where it is kept
+abbrev pub live_left : Bool → Option CutShort → LiveArea → LiveArea
+live_left true (Some cut) live = cut.live
+live_left true None live = live
+live_left false cut live = live
+
 -- a server whose disk crashed, and that was loaded again; where its disk failed before, the ask was kept or not
 abbrev pub crashed : Bool → Server → Server
 crashed keeps server = record {
@@ -96,7 +154,13 @@ crashed keeps server = record {
   calls = [];
   fuse = None;
   clock = server.clock;
+  live = live_left keeps server.cut server.live;
+  cut = None;
 }
+
+-- a server after a crash that leaves its disk so
+abbrev pub restart : Crash → Server → Server
+restart mode server = crashed (is_kept mode server.cut) server
 
 -- ---- the server of a host
 

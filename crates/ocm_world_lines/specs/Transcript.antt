@@ -3,6 +3,7 @@ use Rattle.std.specs.Prelude.{◌≡◌, ℕ, ◌+◌, List, [], ◌∷◌, ◌+
 use Rattle.std.specs.Fmt.{decimal}
 use Rattle.std.specs.Option.{option_map_or}
 use Rattle.ocm_base.specs.Outside.{Appends}
+use Rattle.ocm_disk.specs.declared.crashes.Crash as disks
 use Rattle.ocm_entry.specs.declared.asks.Ask.{Ask}
 use Rattle.ocm_entry.specs.declared.asks.Ask.TheVariants.{Tick}
 use Rattle.ocm_rules.specs.Lean.{count}
@@ -11,7 +12,7 @@ use Rattle.ocm_script.specs.declared.events.Event.{Event}
 use Rattle.ocm_script.specs.declared.events.Event.TheVariants.{Node, Clock, Raw, Deliver, Pump, Fuse, Crash}
 use Rattle.ocm_script.specs.Events.{host_of}
 use Rattle.ocm_world_lines.specs.Asked.{ask_of, fault_of, fault_text, shows_digits}
-use Rattle.ocm_world_lines.specs.Servers.{Server, World, asked_at, crashed, history, new_server, reply_at, server_at, step_at}
+use Rattle.ocm_world_lines.specs.Servers.{Server, World, asked_at, history, new_server, reply_at, restart, server_at, step_at}
 use Rattle.ocm_world_lines.specs.Deliveries.{Run, deliver, next_wanting, pump}
 use Rattle.ocm_world_lines.specs.Talks.{Says, config_of}
 
@@ -39,14 +40,14 @@ abbrev pub opened_line : ℕ → ℕ → List ℕ
 opened_line number kept = line_text number (codes "opened " ++ decimal kept)
 
 -- how many entries the server of this host keeps after a crash, the ticks aside
-abbrev pub kept_at : Bool → World → List ℕ → Option ℕ
-kept_at keeps world host = option_map (λ server. count server.host (history (crashed keeps server))) (server_at world host)
+abbrev pub kept_at : disks.Crash → World → List ℕ → Option ℕ
+kept_at left world host = option_map (λ server. count server.host (history (restart left server))) (server_at world host)
 
 -- the disk of this host's server crashes, and it is loaded again
-abbrev pub restarted : Bool → World → ℕ → List ℕ → Run
-restarted keeps world number host = record {
-  world = step_at (crashed keeps) world host;
-  text = option_map_or (opened_line number) (kept_at keeps world host) [];
+abbrev pub restarted : disks.Crash → World → ℕ → List ℕ → Run
+restarted left world number host = record {
+  world = step_at (restart left) world host;
+  text = option_map_or (opened_line number) (kept_at left world host) [];
 }
 
 -- what a line prints that asks nothing: what is wrong with its record, or nothing
@@ -58,14 +59,14 @@ abbrev pub plain : Bool → World → ℕ → Event → Option (List ℕ) → Op
 plain wanting world number e (Some host) (Some ask) = asked wanting world number (shows_digits e) host ask
 plain wanting world number e _ _ = record { world = world; text = faulty_text number e }
 
--- what a line does and prints that is no `raw`; the list tells at which of its asks memory was wanting, and for a crash whether the ask was kept that the disk failed at
+-- what a line does and prints that is no `raw`; the list tells at which of its asks memory was wanting
 abbrev pub run : List Bool → World → ℕ → Event → Run
 run wanting world number (Node host) = named world number host
 run wanting world number (Clock host clock) = clocked (next_wanting wanting) world number host clock
 run wanting world number (Deliver host m fresh lost) = deliver wanting world number host m fresh lost
 run wanting world number (Pump host fresh) = pump wanting world number host fresh
 run wanting world number (Fuse host calls) = fused world number host calls
-run wanting world number (Crash host left) = restarted (next_wanting wanting) world number host
+run wanting world number (Crash host left) = restarted left world number host
 run wanting world number e = plain (next_wanting wanting) world number e (host_of e) (ask_of e)
 
 -- what a connection to a server does and prints
@@ -75,7 +76,7 @@ Talked world number host fresh bytes (Some server) line =
     (after : Server) × (text : List ℕ) × Says (config_of server.host) number fresh 0 0 bytes server after text
     × (line ≡ record { world = step_at (λ _. after) world host; text = text })
 
--- What a line does and prints. Memory may be wanting at each of its asks, and after a fault of the disk the ask may be kept by a crash or not; all else is fixed.
+-- What a line does and prints. Memory may be wanting at each of its asks; all else is fixed.
 abbrev pub IsRun : World → ℕ → Event → Run → Type 0
 IsRun world number (Raw host fresh bytes) line = Talked world number host fresh bytes (server_at world host) line
 IsRun world number e line = (wanting : List Bool) × (line ≡ run wanting world number e)

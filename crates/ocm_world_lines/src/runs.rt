@@ -101,7 +101,7 @@ fn crash<S: ScriptServers>(
     left: Crash,
 ) -> Result<Bytes, NoMemory>
     requires { (world : World) × S.stand servers.old world }
-    ensures { IfOk result (λ text. (world : World) → S.stand servers.old world → Runs S.stand (λ wanting. transcript.restarted (next_wanting wanting) world line host.now) servers.new text) }
+    ensures { IfOk result (λ text. (world : World) → S.stand servers.old world → Runs S.stand (λ wanting. transcript.restarted left world line host.now) servers.new text) }
 {
     match servers.crash(host, left)? {
         Some(count) => opened_line(alloc, line, count),

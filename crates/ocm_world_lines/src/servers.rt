@@ -4,7 +4,7 @@ ghost use Rattle.ocm_entry.specs.Fitting.{Fits};
 ghost use Rattle.ocm_entry.specs.Proper.{is_proper};
 ghost use Rattle.ocm_world_lines.specs.Deliveries.{Run};
 ghost use Rattle.ocm_world_lines.specs.Running.{Asks, Ran, state_at};
-ghost use Rattle.ocm_world_lines.specs.Servers.{Server, World, crashed, message_at, new_server, reply_of, server_after, server_at, step_at};
+ghost use Rattle.ocm_world_lines.specs.Servers.{Server, World, message_at, new_server, reply_of, restart, server_after, server_at, step_at};
 ghost use Rattle.ocm_world_lines.specs.Transcript.{Talked, kept_at};
 
 use ocm_base::{Bytes, NoMemory};
@@ -68,8 +68,7 @@ pub trait ScriptServers {
     /// it keeps that are no tick. None where no server has the host.
     fn crash(&mut self, host: &Host, left: Crash) -> Result<Option<u64>, NoMemory>
         requires { (world : World) × stand self.old world }
-        ensures { IfOk result (λ count. (world : World) → stand self.old world
-            → (keeps : Bool) × (count ≡ kept_at keeps world host.now) × stand self.new (step_at (crashed keeps) world host.now)) };
+        ensures { IfOk result (λ count. (world : World) → stand self.old world → (count ≡ kept_at left world host.now) × stand self.new (step_at (restart left) world host.now)) };
 
     /// A connection to the server of this host, which sends these bytes. Gives the lines that it prints.
     fn talk(

@@ -3,7 +3,13 @@
 
 ghost use Rattle.std.specs.Prelude.{◌≡◌, ◌⊎◌};
 ghost use Rattle.ocm_base.specs.Outside.{Appends, AppendsPart, Rose};
+ghost use Rattle.ocm_options.specs.Plans.{texts};
+ghost use Rattle.ocm_remote.specs.Answers.{status_of};
+ghost use Rattle.ocm_remote.specs.Exchanges.{AsksPut};
+ghost use Rattle.ocm_remote.specs.declared.ends.End.{End};
+ghost use Rattle.ocm_remote.specs.declared.ends.End.TheVariants as asked;
 ghost use Rattle.ocm_commands_checks.specs.Commands.{usage_line};
+ghost use Rattle.ocmd.specs.Runs.{AloneEnds, AloneReads, AskAlone, AskRemote, AskServe, RemoteEnds, ServeEnds};
 
 use ocm_base::{Sink, Source, StdSink, StdSource};
 use ocm_commands::command;
@@ -47,7 +53,7 @@ fn words_of(rt: &HostRuntime) -> Result<Vec<String>, ErrorKind> {
     }
 }
 
-/// Does what the words ask for, and answers the status of the program.
+/// Does what the words ask for, and answers the status of the program: `serve` and `dav` by the first word, else `command`.
 fn run<
     R: Threads
         + Wait
@@ -58,7 +64,23 @@ fn run<
         + Net<Listener = TcpListener, Stream = TcpStream>,
     S: Source,
     K: Sink,
->(rt: &R, alloc: Global, words: &[String], source: &mut S, sink: &mut K) -> u8 {
+>(rt: &R, alloc: Global, words: &[String], source: &mut S, sink: &mut K) -> u8
+    // `serve`
+    ensures serve { AskServe (texts words.now) → ServeEnds (texts words.now) result (K.taken sink.old) (K.taken sink.new) (K.faults sink.old) (K.faults sink.new) }
+    ensures serve_unread { AskServe (texts words.now) → source.new ≡ source.old }
+
+    // `dav`
+    ensures dav { AskRemote (texts words.now) → (end : End) × (result ≡ status_of end)
+        × RemoteEnds (texts words.now) end (K.taken sink.old) (K.taken sink.new) (K.faults sink.old) (K.faults sink.new)
+        × (end ≡ asked.ReadFault → Rose (S.faults source.old) (S.faults source.new)) }
+    ensures dav_unread { AskRemote (texts words.now) → (AsksPut (texts words.now) → ⊥) → source.new ≡ source.old }
+
+    // the other commands, and other words
+    ensures alone { AskAlone (texts words.now) → AloneEnds (texts words.now) result (S.left source.old) (K.taken sink.old) (K.taken sink.new) }
+    ensures alone_reads { AskAlone (texts words.now) → AloneReads S.left (texts words.now) result source.old source.new }
+    ensures alone_read_fault { AskAlone (texts words.now) → result ≡ 3 → Rose (S.faults source.old) (S.faults source.new) }
+    ensures alone_write_fault { AskAlone (texts words.now) → result ≡ 4 → Rose (K.faults sink.old) (K.faults sink.new) }
+{
     if asks_serve(words) {
         return run_server(rt, alloc, words, sink);
     }

@@ -53,3 +53,16 @@ returns-then-is_err-clause-unfailing g c = (tt, λ all. absurd (not_failed c.syn
 
 pub returns-clause-unfailing : goal.returns-clause-unfailing
 returns-clause-unfailing g c = behind_same g.D.Disk c.args.disk.now c.sync.new.self c.open_synced.new.disk c.open_synced.result (on_ok c.sync.result _ (sym c.is_err.ensures.value ∙ c.if-is_err.false) c.sync.ensures.cause.passed) (λ all. (some_calls g.D.Disk c.args.disk.now c.sync.new.self c.sync.result 1 c.sync.ensures.passes all).1) c.open_synced.ensures.unfailing
+
+pub returns-then-is_err-clause-synced : goal.returns-then-is_err-clause-synced
+returns-then-is_err-clause-synced g c = λ tells one. absurd (not_failed c.sync.result (c.sync.ensures.passes 0 one).0 (sym c.is_err.ensures.value ∙ c.if-is_err.true))
+
+pub returns-clause-synced : goal.returns-clause-synced
+returns-clause-synced g c = λ tells one x left.
+    let d = g.D.Disk in
+    let good = sym c.is_err.ensures.value ∙ c.if-is_err.false in
+    let durable = on_ok c.sync.result _ good (c.sync.ensures.durable tells) in
+    let only_mid : Only (d.seen c.sync.new.self) (d.may_leave c.sync.new.self) = λ y was. durable y was ∙ sym c.sync.ensures.seen in
+    let leaves = c.open_synced.ensures.any_moment tells only_mid in
+    let here = g.met.D.Disk.counts_now c.open_synced.new.disk (d.moment c.sync.new.self) x leaves.later left in
+    subst (λ (b : List ℕ). StaysAsItOpens c.args.label.now c.args.area b x) c.sync.ensures.seen (leaves.each x here)

@@ -1,13 +1,15 @@
-use Rattle.std.proofs.Common.{ℕ, List, sym, ap, subst, ◌∙◌}
+use Rattle.std.proofs.Common.{◌⊎◌, ℕ, List, sym, ap, subst, ◌∙◌, inl}
 use Rattle.ocm_dav.specs.declared.configs.Config.{Config}
+use Rattle.ocm_disk.specs.Disk.{LeavesOnly}
+use Rattle.ocm_disk.proofs.Moments.{started}
 use Rattle.ocm_entry.specs.declared.entries.Entry.{Entry}
 use Rattle.ocm_journal.specs.Openings.{StaysAsItOpens}
 use Rattle.ocm_serve_store.specs.Runs.{HasServed, IsCounted, IsDiskFault, IsSaid}
 use Rattle.ocm_server.specs.declared.served.Served.{Served}
-use Rattle.ocm_serve_store.proofs.Told.{based, loaded-counted, loaded-said, loaded-sound, opened_same, refused-counted, refused-said, sound-told, unserved}
+use Rattle.ocm_serve_store.proofs.Told.{based, loaded-counted, loaded-said, loaded-sound, opened_same, refused-counted, refused-said, run-keeps, run-leaves, sound-told, unserved}
 use Rattle.ocm_store.specs.Opening as stores
 use Rattle.ocm_store.specs.Opening.{IsOfArea, loading}
-use Rattle.ocm_store.specs.Stores.{area_of}
+use Rattle.ocm_store.specs.Stores.{area_of, disk_of}
 use Rattle.ocm_serve_store.proofs.serving.serve.Goals as goal
 
 pub serve_store-requires-clause-store : goal.serve_store-requires-clause-store
@@ -15,16 +17,25 @@ serve_store-requires-clause-store g c κs within = let o = c.in-Ok-load.ensures.
     (o.0, opened_same g.D.Disk 536870656 c.in-Ok.host c.in-Ok.config.host c.args.disk c.of-before.result.value o.0 (names.1 ∙ sym (ap (λ (k : Config). k.host) names.0)) (sym c.of-before.ensures) o.3, o.1, o.2)
 
 pub returns-in-Ok-load-clause-served : goal.returns-in-Ok-load-clause-served
-returns-in-Ok-load-clause-served g c = λ calls own has. let names = c.in-Ok.ensures in record {
-  config = c.in-Ok.config;
-  config_is = names.0;
-  store = c.in-Ok-load.store;
-  host_is = c.in-Ok-load.ensures.host ∙ names.1;
-  area_is = λ tells. subst (λ (h : List ℕ). IsOfArea h 536870656 (area_of c.in-Ok-load.store) (g.D.Disk.seen c.args.disk)) names.1 (c.in-Ok-load.ensures.area tells);
-  served = based g.D.Disk _ _ _ _ _ _ _ _
-      (λ (k : List Entry) opens. opened_same g.D.Disk 536870656 c.in-Ok.config.host c.args.plan.now.host c.of-before.result.value c.args.disk k (ap (λ (n : Config). n.host) names.0) c.of-before.ensures opens)
-      (c.serve_store.ensures.served calls own has);
-}
+returns-in-Ok-load-clause-served g c = λ calls own has.
+    let names = c.in-Ok.ensures in
+    let d = g.D.Disk in
+    let laws = g.met.D.Disk g.world.𝓛 g.world.𝓜 g.world.𝓡 ((λ s x. x), (λ x. x), (λ x. x), λ x. x) in
+    let run = based d _ _ _ _ _ _ _ _
+    (λ (k : List Entry) opens. opened_same d 536870656 c.in-Ok.config.host c.args.plan.now.host c.of-before.result.value c.args.disk k (ap (λ (n : Config). n.host) names.0) c.of-before.ensures opens)
+    (c.serve_store.ensures.served calls own has) in
+    record {
+      config = c.in-Ok.config;
+      config_is = names.0;
+      store = c.in-Ok-load.store;
+      host_is = c.in-Ok-load.ensures.host ∙ names.1;
+      area_is = λ tells. subst (λ (h : List ℕ). IsOfArea h 536870656 (area_of c.in-Ok-load.store) (d.seen c.args.disk)) names.1 (c.in-Ok-load.ensures.area tells);
+      served = run;
+      all_own = run.service.all_own;
+      any_moment = λ tells. run-leaves d laws.only_now c.args.plan.now.host 536870656 _ _ _ c.args.disk _ _ _ _ run tells
+          (subst (λ (h : List ℕ). LeavesOnly d.moment d.left_since c.args.disk (disk_of c.in-Ok-load.store) (λ x. d.may_leave c.args.disk x ⊎ StaysAsItOpens h 536870656 (d.seen c.args.disk) x)) names.1 (c.in-Ok-load.ensures.moments_ok tells));
+      kept = λ done later is. run-keeps d laws.only_now _ _ _ _ _ _ _ run done later is;
+    }
 
 pub returns-in-Ok-load-clause-said : goal.returns-in-Ok-load-clause-said
 returns-in-Ok-load-clause-said g c = λ tells. loaded-said _ c.serve_store.result.0 c.serve_store.ensures.loaded
@@ -58,3 +69,21 @@ returns-clause-counted g c =
 
 pub returns-clause-unfailing : goal.returns-clause-unfailing
 returns-clause-unfailing g c = λ passes is. sound-told c.in-Err.fault (c.in-Err.ensures.unfailing passes) (subst (λ (r : Served). IsDiskFault r) c.refused.ensures is)
+
+pub returns-in-Ok-load-clause-unserved : goal.returns-in-Ok-load-clause-unserved
+returns-in-Ok-load-clause-unserved g c = λ tells unserved.
+    let names = c.in-Ok.ensures in
+    let d = g.D.Disk in
+    subst (λ (h : List ℕ). LeavesOnly d.moment d.left_since c.args.disk c.serve_store.result.1 (λ x. d.may_leave c.args.disk x ⊎ StaysAsItOpens h 536870656 (d.seen c.args.disk) x)) names.1
+    (subst (λ back. LeavesOnly d.moment d.left_since c.args.disk back (λ x. d.may_leave c.args.disk x ⊎ StaysAsItOpens c.in-Ok.host 536870656 (d.seen c.args.disk) x)) (sym (c.serve_store.ensures.kept unserved)) (c.in-Ok-load.ensures.moments_ok tells))
+
+pub returns-clause-unserved : goal.returns-clause-unserved
+returns-clause-unserved g c = λ tells unserved.
+    let d = g.D.Disk in
+    subst (λ (h : List ℕ). LeavesOnly d.moment d.left_since c.args.disk c.in-Err.disk (λ x. d.may_leave c.args.disk x ⊎ StaysAsItOpens h 536870656 (d.seen c.args.disk) x)) c.in-Ok.ensures.1 (c.in-Err.ensures.moments_err tells)
+
+pub returns-in_default-clause-unserved : goal.returns-in_default-clause-unserved
+returns-in_default-clause-unserved g c = λ tells unserved.
+    let d = g.D.Disk in
+    let laws = g.met.D.Disk g.world.𝓛 g.world.𝓜 g.world.𝓡 ((λ s x. x), (λ x. x), (λ x. x), λ x. x) in
+    started d.moment d.left_since c.args.disk (λ x. d.may_leave c.args.disk x ⊎ StaysAsItOpens c.args.plan.now.host 536870656 (d.seen c.args.disk) x) (λ x left. inl (laws.only_now c.args.disk x left))

@@ -1,17 +1,18 @@
-use Rattle.std.proofs.Common.{◌≡◌, ◌∙◌, ℕ, ◌<◌, List, [], length, map, get_or, ap, subst, arith}
+use Rattle.std.proofs.Common.{◌≡◌, ◌∙◌, ℕ, ◌<◌, List, [], length, map, get_or, ap, arith}
 use Rattle.std.proofs.lemmas.List.{get_or-map, length-map}
-use Rattle.ocm_turn.specs.Passes.{Known, SameGround}
+use Rattle.ocm_turn.specs.Passes.{Known}
+use Rattle.ocm_turn.proofs.MoveLemmas.{ground_then}
 use Rattle.ocm_turn.specs.declared.view.Call.{Call}
-use Rattle.ocm_server.specs.Objects.{draw_at, mine_of, gathered}
+use Rattle.ocm_server.specs.Objects.{draw_at, mine_of, gathered, parts_of}
 use Rattle.ocm_server.specs.Visits.{Work, work}
 use Rattle.ocm_server.specs.declared.workers.Worker.{Worker}
-use Rattle.ocm_server.proofs.Serving.{order_of, orders, service, shift}
+use Rattle.ocm_server.proofs.Serving.{order_of, orders, same_parts, service, shift}
 use Rattle.ocm_server.proofs.objects.serve_through.Goals as goal
 
 pub returns : goal.returns
 returns g c =
     let W : Type 0 = Worker g.row.T.Denot g.row.L.Denot g.row.N.Denot g.row.K.Denot g.row.T-Terms.Denot g.row.L-Conn.Denot in
-    let view : W → Work g.row.L-Conn.Denot g.row.T-Terms.Denot = λ w. work (g.L.Door.told w.door) (g.L.Door.faults w.door) (g.N.Dial.exchanges w.dial) (g.N.Dial.faults w.dial) w.draw (g.K.Clock.given w.clock) w.pass w.end in
+    let view : W → Work g.row.L-Conn.Denot g.row.T-Terms.Denot = λ w. work (g.L.Door.told w.door) (g.L.Door.faults w.door) (g.N.Dial.exchanges w.dial) (g.N.Dial.faults w.dial) (g.N.Dial.delivers w.dial) w.draw (g.K.Clock.given w.clock) w.pass w.end in
     let mine : W → List Call = λ w. mine_of w.pass in
     let dealt : (i : ℕ) → i < length c.args.workers.now → i < length c.deal.new.workers = λ i below. let a = c.deal.auto.workers in omega (arith, below, a) in
     let served : (i : ℕ) → i < length c.args.workers.now → i < length c.serve_all-rounds.new.workers = λ i below. let a = c.deal.auto.workers in let b = c.serve_all-rounds.auto.workers in omega (arith, below, a, b) in
@@ -20,11 +21,11 @@ returns g c =
     let same = c.deal.ensures.same in
     let h = c.close-shut.ensures.history in
     service g.T.Object.terms g.T.Object.stands g.T.Object.legal c.args.node c.args.pass c.gather.new.pass c.close-shut.result.value c.close-shut.result.calls c.calls-own.result _ (map mine c.serve_all-rounds.new.workers) h.0
-    (subst (λ (p : Known g.row.T-Terms.Denot). SameGround p c.gather.new.pass) same c.gather.ensures.ground)
+    (ground_then c.args.pass c.deal.new.pass c.gather.new.pass (record { turnstile = ap (λ (p : Known g.row.T-Terms.Denot). p.turnstile) same; base = ap (λ (p : Known g.row.T-Terms.Denot). p.base) same; terms = ap (λ (p : Known g.row.T-Terms.Denot). p.terms) same }) c.gather.ensures.ground)
     c.requires.uncalled
     (c.gather.ensures.mine ∙ ap (λ (p : Known g.row.T-Terms.Denot). gathered p.mine (map mine c.serve_all-rounds.new.workers)) same) (
       many,
-      λ i d below. shift g.L.Conn.Conn.sides c.args.config.now c.args.node c.args.pass (draw_at c.args.draw_key i) c.requires.uncalled
+      λ i d below. shift g.L.Conn.Conn.sides c.args.config.now c.args.node c.args.pass (draw_at c.args.draw_key i)
           (view (get_or c.args.workers.now i d)) (view (get_or c.deal.new.workers i d)) (view (get_or c.serve_all-rounds.new.workers i d)) (view (get_or c.gather.new.workers i d))
           (get_or (map mine c.serve_all-rounds.new.workers) i []) c.close-shut.result.calls
           (ap view (c.deal.ensures.dealt i d below)) (c.serve_all-rounds.ensures.each i d (dealt i below)) (ap view (c.gather.ensures.taken i d (served i below))) (get_or-map mine c.serve_all-rounds.new.workers i d [] (served i below))
@@ -33,3 +34,13 @@ returns g c =
     h.1 h.2 (c.close-shut.ensures.terms) h.5 h.4
     (orders mine c.serve_all-rounds.new.workers (λ i d below. order_of g.L.Conn.Conn.sides c.args.config.now c.args.node (view (get_or c.deal.new.workers i d)) (view (get_or c.serve_all-rounds.new.workers i d)) (c.serve_all-rounds.ensures.each i d (began i below))))
     c.calls-own.ensures.stand.1 c.calls-own.ensures.number
+    (c.close-shut.ensures.whole (let given = c.deal.ensures.parts in let back = c.gather.ensures.parts in let a = c.deal.auto.workers in let b = c.serve_all-rounds.auto.workers in omega (arith, given, back, a, b)))
+
+pub gather-requires-clause-one : goal.gather-requires-clause-one
+gather-requires-clause-one g c = λ i d below.
+    let W : Type 0 = Worker g.row.T.Denot g.row.L.Denot g.row.N.Denot g.row.K.Denot g.row.T-Terms.Denot g.row.L-Conn.Denot in
+    let view : W → Work g.row.L-Conn.Denot g.row.T-Terms.Denot = λ w. work (g.L.Door.told w.door) (g.L.Door.faults w.door) (g.N.Dial.exchanges w.dial) (g.N.Dial.faults w.dial) (g.N.Dial.delivers w.dial) w.draw (g.K.Clock.given w.clock) w.pass w.end in
+    let a = c.deal.auto.workers in
+    let b = c.serve_all-rounds.auto.workers in
+    same_parts g.L.Conn.Conn.sides c.args.config.now c.args.node (view (get_or c.deal.new.workers i d)) (view (get_or c.serve_all-rounds.new.workers i d)) (c.serve_all-rounds.ensures.each i d (omega (arith, below, b)))
+    ∙ ap (λ (w : W). parts_of w.pass) (c.deal.ensures.dealt i d (omega (arith, below, a, b)))

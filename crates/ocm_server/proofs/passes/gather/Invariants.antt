@@ -1,4 +1,4 @@
-use Rattle.std.proofs.Common.{◌≡◌, ℕ, ◌<◌, ◌≤◌, get_or, None, drop, map}
+use Rattle.std.proofs.Common.{◌≡◌, ℕ, ◌+◌, ◌<◌, ◌≤◌, get_or, None, drop, map}
 use Rattle.ocm_turn.specs.Passes.{BelongsTo, SameGround}
 use Rattle.ocm_server.specs.Objects.{drawn_of, gathered, mine_of}
 use Rattle.ocm_server.proofs.Dealing.{ChangedBelow}
@@ -11,5 +11,6 @@ invariant-loop-k g l = record {
   ground : SameGround l.initial.pass l.pass;
   taken : ChangedBelow (λ i w. record w { pass = None }) l.initial.workers l.workers l.k;
   mine : gathered l.pass.mine (map (λ w. mine_of w.pass) (drop l.k l.initial.workers)) ≡ gathered l.initial.pass.mine (map (λ w. mine_of w.pass) l.initial.workers);
+  parts : l.pass.parts ≡ l.initial.pass.parts + l.k;
   drawn : (i : ℕ) (d : _) → i < l.k → drawn_of (get_or l.initial.workers i d).pass ≤ l.pass.drawn;
 }

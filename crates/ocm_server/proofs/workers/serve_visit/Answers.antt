@@ -6,7 +6,7 @@ pub returns-clause-comes : goal.returns-clause-comes
 returns-clause-comes g c = record {
   back = c.serve_conn-ended.new.conn;
   ended = c.serve_conn-ended.result;
-  pumped = c.pump_round-pumped.result;
+  pumped = c.round_behind-pumped.result;
   came = c.done.ensures.back;
   visited = record {
     middle = desk c.serve_conn-ended.new.draw (g.K.Clock.given c.serve_conn-ended.new.clock) (g.N.Dial.exchanges c.args.dial.now) c.serve_conn-ended.new.pass;
@@ -14,8 +14,6 @@ returns-clause-comes g c = record {
     talked = c.serve_conn-ended.ensures.talk;
     draw_waits = refl;
     clock_waits = refl;
-    rounded = c.pump_round-pumped.ensures.round;
-    spent = c.pump_round-pumped.ensures.spent;
-    below = c.pump_round-pumped.ensures.below;
+    behind = c.round_behind-pumped.ensures.behind;
   };
 }

@@ -1,6 +1,6 @@
 use Rattle.std.proofs.Common.{sym, ap, subst, refl}
 use Rattle.std.specs.Prelude.{Err}
-use Rattle.ocm_journal.specs.Journals.{StandsFor, disk_of, form_of}
+use Rattle.ocm_journal.specs.Journals.{StandsFor, disk_of, first_is_live, form_of}
 use Rattle.ocm_store.specs.Acts.{SpendsNone}
 use Rattle.ocm_store.proofs.Journaling.{failed-renew, passed-renew}
 use Rattle.ocm_store.proofs.writing.put_in_place.Goals as goal
@@ -39,3 +39,12 @@ returns-in-Err-DiskFault-clause-unwritten G c = λ tells label before s none. ab
 
 pub returns-in-Err-DiskFault-clause-not_made : goal.returns-in-Err-DiskFault-clause-not_made
 returns-in-Err-DiskFault-clause-not_made G c = λ none. absurd none
+
+pub returns-in-Err-Full-clause-still : goal.returns-in-Err-Full-clause-still
+returns-in-Err-Full-clause-still G c = λ none. ap first_is_live (c.in-Err-Full.ensures.unchanged (ap Err c.in-Err-Full.field-0-is))
+
+pub returns-in-Err-NoMemory-clause-still : goal.returns-in-Err-NoMemory-clause-still
+returns-in-Err-NoMemory-clause-still G c = λ none. c.in-Err-NoMemory.ensures.live_kept (ap Err c.in-Err-NoMemory.field-0-is)
+
+pub returns-in-Err-DiskFault-clause-still : goal.returns-in-Err-DiskFault-clause-still
+returns-in-Err-DiskFault-clause-still G c = λ none. absurd none

@@ -1,11 +1,13 @@
-use Rattle.std.proofs.Common.{◌≡◌, ap}
+use Rattle.std.proofs.Common.{◌≡◌, ◌∙◌, ap, subst}
 use Rattle.std.proofs.lemmas.Result.{IfErr-weaker, on_ok_weaker}
-use Rattle.std.specs.Prelude.{Err}
+use Rattle.std.specs.Prelude.{Err, not}
 use Rattle.ocm_history.specs.Histories.{home_of}
-use Rattle.ocm_journal.specs.Journals.{StandsFor, area_of, form_of}
+use Rattle.ocm_journal.specs.Journals.{StandsFor, area_of, disk_of, first_is_live, form_of}
+use Rattle.ocm_journal.specs.LiveAreas.{HasLive}
+use Rattle.ocm_rules.proofs.Lists.{not_both}
 use Rattle.ocm_store.specs.Faults.{IsNoDiskFault}
 use Rattle.ocm_store.specs.Stores.{IsWritten}
-use Rattle.ocm_store.proofs.Journaling.{renew-fits, renewed, renewed-moments, still-written, unchanged-moments}
+use Rattle.ocm_store.proofs.Journaling.{after-map, anew-live, before-live, err-both, on-both, renew-fits, renewed, renewed-moments, still-written, unchanged-moments}
 use Rattle.ocm_store.proofs.writing.write_anew.Goals as goal
 
 pub returns-in-Ok-clause-written : goal.returns-in-Ok-clause-written
@@ -53,3 +55,39 @@ returns-in-Err-TooLong-clause-not_made G c = λ none left. (λ b. b, λ p. p)
 
 pub returns-in-Err-NoMemory-clause-not_made : goal.returns-in-Err-NoMemory-clause-not_made
 returns-in-Err-NoMemory-clause-not_made G c = λ none left. (λ b. b, λ p. p)
+
+pub returns-in-Ok-clause-live : goal.returns-in-Ok-clause-live
+returns-in-Ok-clause-live G c = λ tells g ask form draft live change is h.
+    let host = home_of c.args.history.now in
+    let new = c.put_in_place-written.new.journal in
+    let are = c.in-Ok.ensures.lean g ask form draft change is in
+    on-both c.put_in_place-written.result
+    (λ first p. record { first = first ∙ ap not h.first; form = p.0; holds = subst (λ rs. StandsFor G.D.Disk host rs new) are p.1 })
+    c.put_in_place-written.ensures.live (c.put_in_place-written.ensures.written tells host live.records h.holds)
+
+pub returns-in-Ok-clause-still : goal.returns-in-Ok-clause-still
+returns-in-Ok-clause-still G c = λ tells label live h.
+    let old = c.args.journal.now in
+    let new = c.put_in_place-written.new.journal in
+    err-both c.put_in_place-written.result
+    (λ fault. IsNoDiskFault fault → first_is_live new ≡ first_is_live old)
+    (λ fault. IsNoDiskFault fault → (form_of new ≡ form_of old) × StandsFor G.D.Disk label live.records new)
+    (λ fault. IsNoDiskFault fault → HasLive G.D.Disk label live new)
+    (λ fault first p none. record { first = first none ∙ h.first; form = (p none).0 ∙ h.form; holds = (p none).1 })
+    c.put_in_place-written.ensures.still (c.put_in_place-written.ensures.unwritten tells label live.records h.holds)
+
+pub returns-in-Ok-clause-after_fault : goal.returns-in-Ok-clause-after_fault
+returns-in-Ok-clause-after_fault G c = λ tells g ask form draft live left change is w h stopped pass burnt.
+    let host = home_of c.args.history.now in
+    let old = c.args.journal.now in
+    let d = G.D.Disk in
+    after-map d left _ _ _ _ _ _ (disk_of c.put_in_place-written.new.journal) h.first
+    (before-live d c.args.history.now g ask c.args.planned.now form draft change old live h w)
+    (anew-live d c.args.history.now g ask c.args.planned.now form draft change old live c.in-Ok.records (c.in-Ok.ensures.lean g ask form draft change is) h)
+    (c.put_in_place-written.ensures.after_fault tells host live.records left h.holds stopped pass burnt)
+
+pub returns-in-Err-TooLong-clause-after_fault : goal.returns-in-Err-TooLong-clause-after_fault
+returns-in-Err-TooLong-clause-after_fault G c = λ tells g ask form draft live left change is w h stopped pass burnt. absurd (not_both _ stopped c.requires.goes)
+
+pub returns-in-Err-NoMemory-clause-after_fault : goal.returns-in-Err-NoMemory-clause-after_fault
+returns-in-Err-NoMemory-clause-after_fault G c = λ tells g ask form draft live left change is w h stopped pass burnt. absurd (not_both _ stopped c.requires.goes)

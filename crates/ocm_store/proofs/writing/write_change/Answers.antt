@@ -1,8 +1,11 @@
-use Rattle.std.proofs.Common.{ap, subst, refl, ◌++◌, ◌∷◌, []}
+use Rattle.std.proofs.Common.{ap, subst, sym, refl, length, false, ◌++◌, ◌∷◌, []}
+use Rattle.std.proofs.lemmas.Result.{on_ok_weaker}
 use Rattle.std.specs.Prelude.{Err}
 use Rattle.ocm_history.specs.Histories.{home_of}
-use Rattle.ocm_journal.specs.Journals.{StandsFor, form_of}
-use Rattle.ocm_store.proofs.Journaling.{appended, appended-moments, failed-append, passed-append}
+use Rattle.ocm_journal.specs.AfterFaults.{AfterFault}
+use Rattle.ocm_journal.specs.Journals.{IsFullFor, IsImageWith, StandsFor, area_of, disk_of, first_is_live, form_of}
+use Rattle.ocm_rules.proofs.Lists.{not_both}
+use Rattle.ocm_store.proofs.Journaling.{anew-after_fault, appended, appended-moments, behind-after_fault, failed-append, grown-anew, grown-behind, passed-append}
 use Rattle.ocm_store.proofs.writing.write_change.Goals as goal
 
 -- ---- appended
@@ -21,7 +24,30 @@ returns-in-Ok-clause-any_moment G c = λ tells g ask change w.
 pub returns-in-Ok-clause-made : goal.returns-in-Ok-clause-made
 returns-in-Ok-clause-made G c = λ left. (c.in-Ok.ensures.calls left, λ pass. passed-append _ refl (c.in-Ok.ensures.passes left pass))
 
+pub returns-in-Ok-clause-live : goal.returns-in-Ok-clause-live
+returns-in-Ok-clause-live G c = λ tells g ask live change h.
+    let host = home_of c.args.history.now in
+    let holds = subst (λ b. StandsFor G.D.Disk host (live.records ++ b ∷ []) c.append.new.self) c.as_slice.ensures (c.in-Ok.ensures.acknowledged tells host live.records h.holds) in
+    grown-behind G.D.Disk c.args.history.now g ask c.args.planned.now (form_of c.args.journal.now) c.args.draft.now change c.args.journal.now c.append.new.self live refl h c.append.ensures.shape
+    (λ full. let wrong = c.in-Ok.ensures.full.1 (subst (λ b. IsFullFor c.args.journal.now (length b)) (sym c.as_slice.ensures) full) in absurd (cc)) holds
+
+pub returns-in-Ok-clause-after_fault : goal.returns-in-Ok-clause-after_fault
+returns-in-Ok-clause-after_fault G c = λ tells g ask live left change w h stopped pass burnt. absurd (not_both _ stopped c.in-Ok.ensures.stopped)
+
 -- ---- the disk failed
+
+pub returns-in-Err-DiskFault-clause-still : goal.returns-in-Err-DiskFault-clause-still
+returns-in-Err-DiskFault-clause-still G c = λ tells label live h none. absurd none
+
+pub returns-in-Err-DiskFault-clause-after_fault : goal.returns-in-Err-DiskFault-clause-after_fault
+returns-in-Err-DiskFault-clause-after_fault G c = λ tells g ask live left change w h stopped pass burnt.
+    let host = home_of c.args.history.now in
+    let old = c.args.journal.now in
+    let first = first_is_live old in
+    let after = c.append.ensures.after_fault tells host live.records left h.holds stopped pass burnt in
+    behind-after_fault G.D.Disk c.args.history.now g ask c.args.planned.now (form_of old) c.args.draft.now change old (disk_of c.append.new.self) live left refl h w
+    (λ full. let wrong = c.in-Err-DiskFault.ensures.full.1 (subst (λ b. IsFullFor old (length b)) (sym c.as_slice.ensures) full) in let is = c.in-Err-DiskFault.field-0-is in absurd (cc))
+    (subst (λ b. AfterFault G.D.Disk left false (IsImageWith first host (area_of old) (form_of old) live.records) (IsImageWith first host (area_of old) (form_of old) (live.records ++ b ∷ [])) (disk_of c.append.new.self)) c.as_slice.ensures after)
 
 pub returns-in-Err-DiskFault-clause-unwritten : goal.returns-in-Err-DiskFault-clause-unwritten
 returns-in-Err-DiskFault-clause-unwritten G c = λ tells g w none. absurd none
@@ -80,3 +106,23 @@ returns-in-Err-Full-clause-fewer G c = let same = c.in-Err-Full.ensures.unchange
 
 pub returns-in-Err-Full-clause-passes : goal.returns-in-Err-Full-clause-passes
 returns-in-Err-Full-clause-passes G c = let same = c.in-Err-Full.ensures.unchanged (ap Err c.in-Err-Full.field-0-is) in rw same at c.write_anew.ensures.passes
+
+pub returns-in-Err-Full-clause-live : goal.returns-in-Err-Full-clause-live
+returns-in-Err-Full-clause-live G c = λ tells g ask live change h.
+    let same = c.in-Err-Full.ensures.unchanged (ap Err c.in-Err-Full.field-0-is) in
+    let anew = rw same at c.write_anew.ensures.live in
+    let full = subst (λ b. IsFullFor c.args.journal.now (length b)) c.as_slice.ensures (c.in-Err-Full.ensures.full.0 (ap Err c.in-Err-Full.field-0-is)) in
+    on_ok_weaker c.write_anew.result
+    (grown-anew G.D.Disk c.args.history.now g ask c.args.planned.now (form_of c.args.journal.now) c.args.draft.now change c.args.journal.now c.write_anew.new.journal live refl h full)
+    (anew tells g ask (form_of c.args.journal.now) c.args.draft.now live change refl h)
+
+pub returns-in-Err-Full-clause-still : goal.returns-in-Err-Full-clause-still
+returns-in-Err-Full-clause-still G c = let same = c.in-Err-Full.ensures.unchanged (ap Err c.in-Err-Full.field-0-is) in rw same at c.write_anew.ensures.still
+
+pub returns-in-Err-Full-clause-after_fault : goal.returns-in-Err-Full-clause-after_fault
+returns-in-Err-Full-clause-after_fault G c = λ tells g ask live left change w h stopped pass burnt.
+    let same = c.in-Err-Full.ensures.unchanged (ap Err c.in-Err-Full.field-0-is) in
+    let anew = rw same at c.write_anew.ensures.after_fault in
+    let full = subst (λ b. IsFullFor c.args.journal.now (length b)) c.as_slice.ensures (c.in-Err-Full.ensures.full.0 (ap Err c.in-Err-Full.field-0-is)) in
+    anew-after_fault G.D.Disk c.args.history.now g ask c.args.planned.now (form_of c.args.journal.now) c.args.draft.now change c.args.journal.now (disk_of c.write_anew.new.journal) live left refl h full
+    (anew tells g ask (form_of c.args.journal.now) c.args.draft.now live left change refl w h stopped pass burnt)

@@ -1,6 +1,9 @@
 use Rattle.std.proofs.Common.{◌≡◌, refl, sym, ◌∙◌, subst, ℕ, List, [], Option}
 use Rattle.ocm_disk.specs.Fuse.{CanBurn}
+use Rattle.ocm_disk.specs.contracts.memory.MemDiskDisk.TheImpl.{ghosts}
+use Rattle.ocm_journal.specs.LiveAreas.{BeginsWith, LiveArea}
 use Rattle.ocm_law_sessions.specs.Sessions.{IsSession}
+use Rattle.ocm_store.specs.Growing.{HasLiveArea}
 use Rattle.ocm_store.specs.Opening.{OpensTo}
 use Rattle.ocm_store.specs.Stores.{area_of, disk_of, terms_of}
 use Rattle.ocm_store.specs.declared.terms.Terms.{Terms}
@@ -26,6 +29,7 @@ returns-in-Ok-load c =
       stands = opened.1;
       legal = subst (λ (t : Terms). IsSession t.host t.area opened.0 []) terms opened.2;
       sound = sound-loaded c.args.disk (disk_of c.in-Ok-load.store) c.requires.sound c.in-Ok-load.ensures.count c.in-Ok-load.ensures.passes;
+      live = subst (λ (h : List ℕ). (live : LiveArea) → BeginsWith h area bytes live → HasLiveArea ghosts h live c.in-Ok-load.store) own (c.in-Ok-load.ensures.begins tt);
     }
 
 pub no_memory-requires : goal.no_memory-requires

@@ -46,7 +46,7 @@ returns-in-Fuse g c = rw c.in-Fuse.is
 pub returns-in-Crash : goal.returns-in-Crash
 returns-in-Crash g c = rw c.in-Crash.is
     (if_ok c.crash.result
-    (λ text h world are. Ran-by g.S.ScriptServers.stand (IsRun world c.args.line (events.Crash c.in-Crash.host c.in-Crash.left)) (λ w. transcript.restarted (next_wanting w) world c.args.line c.in-Crash.host) c.crash.new.servers text (λ w. (w, refl)) (h world are))
+    (λ text h world are. Ran-by g.S.ScriptServers.stand (IsRun world c.args.line (events.Crash c.in-Crash.host c.in-Crash.left)) (λ w. transcript.restarted c.in-Crash.left world c.args.line c.in-Crash.host) c.crash.new.servers text (λ w. (w, refl)) (h world are))
     c.crash.ensures)
 
 pub returns-in_default : goal.returns-in_default

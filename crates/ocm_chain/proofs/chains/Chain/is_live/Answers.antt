@@ -4,10 +4,10 @@ use Rattle.ocm_chain.proofs.chains.Chain.is_live.Goals as goal
 
 pub returns-in-Some : goal.returns-in-Some
 returns-in-Some c =
-    let own = c.in-Some.ensures.own in
-    let reach = c.in-Some.ensures.reach in
+    let own = rw (← c.self.view_is) at c.in-Some.ensures.own in
+    let reach = rw (← c.self.view_is) at c.in-Some.ensures.reach in
     rw (← c.self.view_is)
     (c.goes_on.ensures ∙ rw reach (sym (live-there c.self.inside.moment c.self.inside.rows.shares c.args.id c.in-Some.row.now.own (sym own))))
 
 pub returns-in-None : goal.returns-in-None
-returns-in-None c = rw (← c.self.view_is) (sym (live-absent c.self.inside.moment c.self.inside.rows.shares c.args.id (sym c.in-None.ensures.own)))
+returns-in-None c = sym (live-absent c.args.self.now.moment c.args.self.now.shares c.args.id (sym c.in-None.ensures.own))

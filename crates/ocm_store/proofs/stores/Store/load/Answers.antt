@@ -3,6 +3,7 @@ use Rattle.std.specs.Prelude.{IfOk}
 use Rattle.ocm_disk.specs.Disk.{LeavesOnly}
 use Rattle.ocm_image.specs.Layout.{IsLabel}
 use Rattle.ocm_journal.specs.Journals as journals
+use Rattle.ocm_journal.specs.LiveAreas.{BeginsWith, HasLive, LiveArea}
 use Rattle.ocm_journal.specs.Openings.{StaysAsItOpens, new_area, opening}
 use Rattle.ocm_journal.specs.Openings as openings
 use Rattle.ocm_law_sessions.specs.Readings.{refused_at}
@@ -22,6 +23,13 @@ loaded g c =
     let same : c.as_bytes.result.now ≡ c.args.host = c.as_bytes.ensures.value ∙ c.as_str.ensures ∙ c.text.ensures.text in
     subst (λ (label : List ℕ). IsLoaded g.D.Disk label (new_area c.args.limit) c.args.disk c.in-Ok.journal c.in-Ok.records) same
     (record { reads = c.in-Ok.ensures.reads; holds = c.in-Ok.ensures.stands; made = c.in-Ok.ensures.made; same = c.in-Ok.ensures.same; stays = c.in-Ok.ensures.stays_ok; moments = c.in-Ok.ensures.moments_ok })
+
+synced : (g : Over) (c : goal.After-drop-records g) → g.D.Disk.tells → g.D.Disk.passes c.args.disk 1
+    → (x : List ℕ) → g.D.Disk.may_leave (journals.disk_of c.in-Ok.journal) x → StaysAsItOpens c.args.host (new_area c.args.limit) (g.D.Disk.seen c.args.disk) x
+synced g c tells one =
+    let d = g.D.Disk in
+    let same : c.as_bytes.result.now ≡ c.args.host = c.as_bytes.ensures.value ∙ c.as_str.ensures ∙ c.text.ensures.text in
+    subst (λ (label : List ℕ). (x : List ℕ) → d.may_leave (journals.disk_of c.in-Ok.journal) x → StaysAsItOpens label (new_area c.args.limit) (d.seen c.args.disk) x) same (c.in-Ok.ensures.synced_ok tells one)
 
 replayed : (g : Over) (c : goal.After-drop-records g) → IfOk c.replay.result (IsReplayed g.D.Disk c.args.host c.in-Ok.journal c.in-Ok.records)
 replayed g c = replayed-all g.D.Disk c.args.host c.in-Ok.journal c.in-Ok.records c.replay.result c.replay.ensures.host c.replay.ensures.journal c.replay.ensures.memory c.replay.ensures.goes
@@ -79,3 +87,25 @@ returns-in-Err-clause-same_err g c = λ tells.
     let d = g.D.Disk in
     let same : c.as_bytes.result.now ≡ c.args.host = c.as_bytes.ensures.value ∙ c.as_str.ensures ∙ c.text.ensures.text in
     subst (λ (label : List ℕ). StaysAsItOpens label (new_area c.args.limit) (d.seen c.args.disk) (d.seen c.in-Err.disk)) same (c.in-Err.ensures.stays_err tells)
+
+pub returns-in-Ok-clause-synced_ok : goal.returns-in-Ok-clause-synced_ok
+returns-in-Ok-clause-synced_ok g c = λ tells one. all-kept (loaded g c) (λ j. (x : List ℕ) → g.D.Disk.may_leave (journals.disk_of j) x → StaysAsItOpens c.args.host (new_area c.args.limit) (g.D.Disk.seen c.args.disk) x)
+    (synced g c tells one) c.replay.result c.replay.ensures.journal
+
+pub returns-in-Ok-clause-synced_err : goal.returns-in-Ok-clause-synced_err
+returns-in-Ok-clause-synced_err g c = λ tells one. all-back (loaded g c) (λ back. (x : List ℕ) → g.D.Disk.may_leave back x → StaysAsItOpens c.args.host (new_area c.args.limit) (g.D.Disk.seen c.args.disk) x)
+    (synced g c tells one) c.replay.result c.replay.ensures.disk
+
+pub returns-in-Err-clause-synced_err : goal.returns-in-Err-clause-synced_err
+returns-in-Err-clause-synced_err g c = λ tells one.
+    let d = g.D.Disk in
+    let same : c.as_bytes.result.now ≡ c.args.host = c.as_bytes.ensures.value ∙ c.as_str.ensures ∙ c.text.ensures.text in
+    subst (λ (label : List ℕ). (x : List ℕ) → d.may_leave c.in-Err.disk x → StaysAsItOpens label (new_area c.args.limit) (d.seen c.args.disk) x) same (c.in-Err.ensures.synced_err tells one)
+
+pub returns-in-Ok-clause-begins : goal.returns-in-Ok-clause-begins
+returns-in-Ok-clause-begins g c = λ tells.
+    let d = g.D.Disk in
+    let same : c.as_bytes.result.now ≡ c.args.host = c.as_bytes.ensures.value ∙ c.as_str.ensures ∙ c.text.ensures.text in
+    all-kept (loaded g c) (λ j. (live : LiveArea) → BeginsWith c.args.host (new_area c.args.limit) (d.seen c.args.disk) live → HasLive d c.args.host live j)
+    (subst (λ (label : List ℕ). (live : LiveArea) → BeginsWith label (new_area c.args.limit) (d.seen c.args.disk) live → HasLive d label live c.in-Ok.journal) same (c.in-Ok.ensures.begins tells))
+    c.replay.result c.replay.ensures.journal

@@ -9,6 +9,7 @@ use Rattle.ocm_rules.specs.History.{is_failure}
 use Rattle.ocm_rules.specs.State.{view_in}
 use Rattle.ocm_store.proofs.Exits.{acts-failed, acts-full, acts-made, told-change, told-failed, written-told}
 use Rattle.ocm_store.proofs.Room.{counted-fits, counted-full}
+use Rattle.ocm_store.specs.Faults.{stops}
 use Rattle.ocm_store.proofs.stores.Store.write_down.Goals as goal
 
 pub size_with-size-requires-clause-area : goal.size_with-size-requires-clause-area
@@ -47,6 +48,7 @@ returns-in-Ok G c = λ ask change.
     (counted-fits old.history (h ++ k) ask plan form draft it (area_of old.journal) c.size_with-size.result c.rest_size.result c.saturating_add.result old.journal.area_size.1
     (c.size_with-size.ensures.bound (h ++ k) ask form it) c.rest_size.ensures c.saturating_add.ensures below)
     (inl (c.make.ensures.reply ∙ it.plans.reply ∙ reply-after old.history.core.state (h ++ k) ask s.stands.memory.lists)))
+    (λ tells k h live s has. c.in-Ok.ensures.live tells (h ++ k) ask live (change (h ++ k) s.stands.memory) has)
 
 pub returns-in-Err : goal.returns-in-Err
 returns-in-Err G c = λ ask change.
@@ -66,3 +68,6 @@ returns-in-Err G c = λ ask change.
     (c.size_with-size.ensures.bound (h ++ k) ask form it) c.rest_size.ensures c.saturating_add.ensures below in
     told-failed G.D.Disk old k h ask c.in-Err.fault (change-would old.history (h ++ k) ask plan form draft it) (s.stands.fault ∙ c.requires.goes) room
     (λ full. c.in-Err.ensures.not_full (h ++ k) ask it room (ap Err full)))
+    (λ none tells host live has. c.in-Err.ensures.still tells host live has none)
+    (λ broken tells k h live left s has pass burnt.
+    c.write_change.ensures.after_fault tells (h ++ k) ask live left (change (h ++ k) s.stands.memory) (s.stands.written tells c.requires.goes) has (c.in-Err.ensures.stopped ∙ ap (λ f. stops (Err f)) broken.1) pass burnt)

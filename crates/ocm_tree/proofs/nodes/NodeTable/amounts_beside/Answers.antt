@@ -1,5 +1,6 @@
-use Rattle.std.proofs.Common.{◌≡◌, ◌∙◌, sum_by, refl, sym}
+use Rattle.std.proofs.Common.{◌≡◌, ◌∙◌, ap, sum_by, refl, sym}
 use Rattle.ocm_entry.specs.declared.rows.Place.{Place}
+use Rattle.ocm_rules.specs.Files.{child_count}
 use Rattle.ocm_tree.specs.declared.amounts.Amount.{Amount}
 use Rattle.ocm_tree.specs.declared.amounts.Amount.TheVariants.{Bytes, Nodes, Siblings}
 use Rattle.ocm_tree.specs.Tables.{Slots, somes}
@@ -11,12 +12,11 @@ use Rattle.ocm_tree.proofs.nodes.NodeTable.amounts_beside.Goals as goal
 weights : (what : Amount) (to : Place) (slots : Slots) → sum_by (weight what to) (somes slots) ≡ sum_by (weight_in what to) slots
 weights what to slots = sym (sum_by-somes (weight what to) (weight_in what to) refl (λ n. refl) slots)
 
-pub returns-in-Ok : goal.returns-in-Ok
-returns-in-Ok c =
-    let to = c.args.to.now in
+pub returns : goal.returns
+returns c = λ to is.
     let slots = c.args.self.now.slots in
     record {
       bytes = c.total_size.ensures.total ∙ weights Bytes to slots;
       nodes = c.len.ensures.len ∙ (sym (length-weights to (somes slots)) ∙ weights Nodes to slots);
-      siblings = c.from.ensures ∙ ((rw c.in-Ok.ensures.value at c.child_count.ensures.count) ∙ weights Siblings to slots);
+      siblings = c.from.ensures ∙ (c.child_count.ensures.count ∙ (ap (child_count (somes slots)) is ∙ weights Siblings to slots));
     }

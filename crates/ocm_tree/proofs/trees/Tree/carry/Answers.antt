@@ -1,6 +1,5 @@
 use Rattle.std.proofs.Common.{◌++◌, ◌∙◌, length, sym, ap, refl, arith}
 use Rattle.std.specs.Prelude.{filter}
-use Rattle.ocm_rules.specs.Files.{copies}
 use Rattle.ocm_rules.proofs.Once.{once-carried}
 use Rattle.ocm_law_origins.specs.Origins.{origin_stays}
 use Rattle.ocm_tree.proofs.OriginLists.{length-copies}

@@ -14,6 +14,7 @@ returns c =
       not_made = c.act.ensures.not_made;
       fewer = c.act.ensures.fewer;
       passes = c.act.ensures.passes;
+      journal = c.act.ensures.journal;
     } in
     record {
       replied = λ server is. called-of c.args.self.now server c.act.new.self c.args.ask c.act.result is called;

@@ -1,10 +1,10 @@
-use Rattle.std.proofs.Common.{◌≡◌, List, get_or, set, sym, ap, ◌∙◌, subst, true}
+use Rattle.std.proofs.Common.{◌≡◌, List, get_or, set, sym, ap, ◌∙◌, subst}
 use Rattle.std.specs.Prelude.{option_map}
 use Rattle.std.specs.List.{insert, remove}
 use Rattle.ocm_rules.specs.Lean.{count}
 use Rattle.ocm_world.specs.declared.nodes.Node.{Node}
 use Rattle.ocm_world.specs.Running.{AreOf, IsOf}
-use Rattle.ocm_world_lines.specs.Servers.{Server, crashed, history, step_at}
+use Rattle.ocm_world_lines.specs.Servers.{Server, history, restart, step_at}
 use Rattle.ocm_world_lines.proofs.Worlds.{kept-found}
 use Rattle.ocm_world.proofs.Worlds.{AreOf-nowhere, found-within, found_at, found_nowhere, put_again}
 use Rattle.ocm_world.proofs.servers.ServersScriptServers.crash.Goals as goal
@@ -18,9 +18,8 @@ restart-requires c =
 
 pub returns-in_default : goal.returns-in_default
 returns-in_default c = λ world are. (
-  true,
-  sym (ap (option_map (λ (s : Server). count (crashed true s).host (history (crashed true s)))) (found_nowhere c.args.host.now c.args.self.now world are (sym c.in_default.ensures))),
-  AreOf-nowhere (crashed true) c.args.host.now c.args.self.now world are (sym c.in_default.ensures),
+  sym (ap (option_map (λ (s : Server). count s.host (history (restart c.args.left s)))) (found_nowhere c.args.host.now c.args.self.now world are (sym c.in_default.ensures))),
+  AreOf-nowhere (restart c.args.left) c.args.host.now c.args.self.now world are (sym c.in_default.ensures),
 )
 
 pub returns : goal.returns
@@ -33,7 +32,6 @@ returns c = λ world are.
     let out : c.remove.new.self.items ≡ remove c.args.self.now c.in-Some.place = c.remove.ensures.items ∙ ap (λ (l : List Node). remove l c.in-Some.place) c.self.view_is in
     let items : c.insert.new.self.items ≡ set c.args.self.now c.in-Some.place c.in_ok-node.node =
     c.in_ok-insert.ensures.items ∙ ap (λ (l : List Node). insert l c.in-Some.place c.in_ok-node.node) out ∙ put_again c.args.self.now c.in-Some.place c.in_ok-node.node within in (
-      kept.0,
-      kept-found kept.0 world c.args.host.now here.server c.kept-count.result (c.kept-count.ensures (crashed kept.0 here.server) kept.1) here.there,
-      subst (λ (l : List Node). AreOf l (step_at (crashed kept.0) world c.args.host.now)) (sym items) (here.stepped c.in_ok-node.node (crashed kept.0) kept.1),
+      kept-found c.args.left world c.args.host.now here.server c.kept-count.result (c.kept-count.ensures (restart c.args.left here.server) kept) here.there,
+      subst (λ (l : List Node). AreOf l (step_at (restart c.args.left) world c.args.host.now)) (sym items) (here.stepped c.in_ok-node.node (restart c.args.left) kept),
     )

@@ -1,0 +1,140 @@
+//! One request on a connection of its own, which waits for nothing.
+ghost use Rattle.std.specs.Prelude.{◌≤◌, length};
+
+use crate::addresses::begin_connect;
+use crate::replies::Look;
+use crate::streams::{read_now, write_now};
+use os::RawAddr;
+use std::alloc::Global;
+use std::net::TcpStream;
+use std::os::fd::{AsRawFd, RawFd};
+
+/// What a step of an exchange came to.
+#[derive(Clone, Copy, PartialEq, Eq)]
+pub enum Step {
+    /// It goes on, and waits for the peer.
+    Waits,
+    /// The reply is whole, or the peer closed behind it.
+    Whole,
+    /// It failed.
+    Failed,
+}
+
+/// A request on a connection, and what came back so far.
+pub struct Course {
+    stream: TcpStream,
+    /// Whether bytes moved, so that the peer was reached.
+    is_connected: bool,
+    /// How many bytes of the request were sent.
+    sent: usize,
+    reply: Vec<u8>,
+    look: Look,
+}
+
+impl Drop for Course {
+    fn drop(self) {
+        let Course {
+            stream: _,
+            is_connected: _,
+            sent: _,
+            reply: _,
+            look: _,
+        } = self;
+    }
+}
+
+impl Course {
+    /// Begins to connect to an address. None where that fails at once.
+    pub fn begin(alloc: Global, address: &RawAddr) -> Option<Course> {
+        let stream = begin_connect(address)?;
+        Some(Course {
+            stream,
+            is_connected: false,
+            sent: 0,
+            reply: Vec::new(alloc),
+            look: Look::new(),
+        })
+    }
+
+    /// The connection's descriptor.
+    pub fn fd(&self) -> RawFd {
+        self.stream.as_raw_fd()
+    }
+
+    /// Whether the peer was reached.
+    pub fn is_connected(&self) -> bool {
+        self.is_connected
+    }
+
+    /// How many bytes moved.
+    pub fn moved(&self) -> u64 {
+        (self.sent as u64).saturating_add(self.reply.len() as u64)
+    }
+
+    /// What came back.
+    pub fn into_reply(self) -> Vec<u8> {
+        let Course {
+            stream: _,
+            is_connected: _,
+            sent: _,
+            reply,
+            look: _,
+        } = self;
+        reply
+    }
+
+    /// Moves what can be moved now. A reply of more than `most` bytes fails.
+    pub fn go_on(&mut self, alloc: Global, request: &[u8], piece: &mut [u8], most: usize) -> Step {
+        if !self.send(request) {
+            return Step::Failed;
+        }
+        if !self.is_connected {
+            return Step::Waits;
+        }
+        self.receive(alloc, piece, most)
+    }
+
+    /// Sends what the peer takes now. Answers whether that went well.
+    fn send(&mut self, request: &[u8]) -> bool {
+        for _ in 0..=request.len() {
+            let rest = request.get(self.sent..).unwrap_or_default();
+            match write_now(&self.stream, rest) {
+                Some(0) => return true,
+                Some(n) => self.sent = self.sent.saturating_add(n),
+                None => return false,
+            }
+            self.is_connected = true;
+        }
+        true
+    }
+
+    /// Takes what is there now.
+    fn receive(&mut self, alloc: Global, piece: &mut [u8], most: usize) -> Step {
+        for _ in 0..=most {
+            match read_now(&self.stream, piece) {
+                Ok(Some(0)) => return Step::Whole,
+                Ok(Some(n)) => match self.take(alloc, &piece[..n], most) {
+                    Step::Waits => {}
+                    ended => return ended,
+                },
+                Ok(None) => return Step::Waits,
+                Err(_) => return Step::Failed,
+            }
+        }
+        Step::Failed
+    }
+
+    /// Puts what came behind the reply.
+    fn take(&mut self, alloc: Global, came: &[u8], most: usize) -> Step {
+        if came.len() > most.saturating_sub(self.reply.len())
+            || self.reply.extend_from_slice(came).is_err()
+        {
+            return Step::Failed;
+        }
+        if self.look.is_whole(alloc, self.reply.as_slice()) {
+            Step::Whole
+        } else {
+            Step::Waits
+        }
+    }
+}

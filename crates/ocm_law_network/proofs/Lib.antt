@@ -1,0 +1,17 @@
+pub mod Bytes
+pub mod Events
+pub mod Steps
+pub mod Running
+pub mod Reached
+pub mod Worked
+pub mod Backing
+pub mod Workers
+pub mod Serving
+pub mod Histories
+pub mod Fronts
+pub mod Carrying
+pub mod Finding
+pub mod Theirs
+pub mod Runs
+pub mod Apart
+pub mod Mistaken

@@ -1,0 +1,8 @@
+pub mod Network
+pub mod Cases
+pub mod Working
+pub mod Serving
+pub mod Carried
+pub mod Runs
+pub mod Apart
+pub mod Hearing

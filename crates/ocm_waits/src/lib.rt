@@ -1,0 +1,15 @@
+//! What a thread waits at: a set of descriptors (epoll(7)), and a bell that another thread rings (eventfd(2)).
+//!
+//! Contracts know nothing of what the system tells: what stands here is safe, and each call but `Set::wait` returns at
+//! once.
+#![tactic(auto)]
+
+mod bells;
+mod clocks;
+mod owning;
+mod sets;
+
+pub use bells::Bell;
+pub use clocks::millis;
+pub use owning::{last_error, owned};
+pub use sets::Set;
