@@ -174,6 +174,13 @@ impl Hosts {
         self.put(alloc, host, noted);
     }
 
+    /// Leaves a host alone until then, though it did not fail.
+    pub fn rest(&mut self, alloc: Global, host: &str, until: u64) {
+        let mut noted = self.at(host);
+        noted.until = until;
+        self.put(alloc, host, noted);
+    }
+
     /// Notes that a host failed, or was of no use: it is left alone for a while. Gives what is to be told of it.
     pub fn fail(&mut self, alloc: Global, host: &str, now: u64) -> Option<HostNote> {
         let mut noted = self.at(host);

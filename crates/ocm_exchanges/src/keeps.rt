@@ -70,11 +70,10 @@ impl Drop for Keeps {
 }
 
 impl Keeps {
-    /// No reply.
-    pub fn new(alloc: Global) -> Keeps {
-        Keeps {
-            kept: Vec::new(alloc),
-        }
+    /// No reply, with room for all, so that none is lost for want of memory.
+    pub fn new(alloc: Global) -> Result<Keeps, AllocError> {
+        let kept = Vec::with_capacity(alloc, MOST_KEPT)?;
+        Ok(Keeps { kept })
     }
 
     /// Keeps a reply: that to a message until it is asked for, a document for 10 s. Where there is no room the oldest goes.

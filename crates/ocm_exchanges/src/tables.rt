@@ -6,7 +6,7 @@ use crate::keeps::Keeps;
 use crate::names::Names;
 use crate::seats::{Room, Seat, Seats};
 use crate::turns::Turns;
-use ocm_base::Bytes;
+use ocm_base::{Bytes, and};
 use ocm_flights::{Addresses, ExchangeFault, Flight, Limits, Lookup, Lookups, Step};
 use ocm_waits::Set;
 use std::alloc::{AllocError, Global};
@@ -104,11 +104,11 @@ impl Table {
     /// A table of nothing.
     pub fn new(alloc: Global, lookups: Lookups) -> Result<Table, AllocError> {
         let piece = Vec::from_elem(alloc, 0u8, PIECE)?;
-        let seats = Seats::new(alloc)?;
+        let (seats, keeps) = and(Seats::new(alloc)?, Keeps::new(alloc))?;
         Ok(Table {
             seats,
             hosts: Hosts::new(alloc),
-            keeps: Keeps::new(alloc),
+            keeps,
             names: Names::new(alloc, lookups),
             piece,
             notes: Vec::new(alloc),
@@ -223,7 +223,8 @@ impl Table {
         }
     }
 
-    /// Ends the exchange at a place: its reply is kept, or its host is left alone for a while.
+    /// Ends the exchange at a place: its reply is kept, or its host is left alone for a while. Where there was no memory for
+    /// the reply, which is no fault of the host, a message is posted again; hosts take one that they had before.
     fn end(&mut self, alloc: Global, set: &Set, place: usize, step: Step, now: u64) {
         let Some(seat) = self.seats.take(place, set) else {
             return;
@@ -240,7 +241,12 @@ impl Table {
                 self.names.keep(alloc, host.as_str(), addresses, now);
                 let _ = self.keeps.put(host, request, reply, now);
             }
-            Err(_) => {
+            Err(ExchangeFault::NoMemory) => {
+                self.hosts.end(alloc, host.as_str(), false);
+                self.hosts
+                    .rest(alloc, host.as_str(), now.saturating_add(NO_ROOM));
+            }
+            Err(ExchangeFault::Failed) => {
                 self.hosts.end(alloc, host.as_str(), false);
                 self.names.forget(host.as_str());
                 self.fail(alloc, host.as_str(), now);

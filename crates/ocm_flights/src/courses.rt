@@ -18,6 +18,8 @@ pub enum Step {
     Whole,
     /// It failed.
     Failed,
+    /// There was no memory for what came.
+    NoMemory,
 }
 
 /// A request on a connection, and what came back so far.
@@ -126,10 +128,11 @@ impl Course {
 
     /// Puts what came behind the reply.
     fn take(&mut self, alloc: Global, came: &[u8], most: usize) -> Step {
-        if came.len() > most.saturating_sub(self.reply.len())
-            || self.reply.extend_from_slice(came).is_err()
-        {
+        if came.len() > most.saturating_sub(self.reply.len()) {
             return Step::Failed;
+        }
+        if self.reply.extend_from_slice(came).is_err() {
+            return Step::NoMemory;
         }
         if self.look.is_whole(alloc, self.reply.as_slice()) {
             Step::Whole

@@ -222,6 +222,10 @@ impl Flight {
 fn reply_in(course: Option<Course>, step: Step) -> Result<Bytes, ExchangeFault>
     ensures { IfOk result (λ reply. length reply ≤ most_exchange_bytes) }
 {
+    if step == Step::NoMemory {
+        drop(course);
+        return Err(ExchangeFault::NoMemory);
+    }
     let Some(course) = course else {
         return Err(ExchangeFault::Failed);
     };
