@@ -3,13 +3,13 @@ use Rattle.std.proofs.Common.{◌≡◌, ◌≤◌, ◌⊎◌, List, length, ℕ
 use Rattle.std.specs.Prelude.{Option, Some, None, IfSome}
 use mathlib.Core.Logic.{inl, inr}
 use Rattle.ocm_disk.specs.declared.shelf.Place.{Place}
-use Rattle.ocm_world_lines.specs.Drills.{Drills, DrillsPart, summary_of}
-use Rattle.ocm_world_lines.specs.Servers.{World}
+use Rattle.ocm_script_run.specs.Drills.{Drills, DrillsPart, summary_of}
+use Rattle.ocm_script_run.specs.Servers.{World}
 use Rattle.ocm_world.specs.Shelves.{AreShelved}
 use Rattle.ocm_commands.specs.Commands.{Writes, WritesPart}
-use Rattle.ocm_commands_checks.specs.Words.{most_bytes}
-use Rattle.ocm_commands_checks.specs.declared.ends.End.TheVariants as whole
-use Rattle.ocm_commands_checks.specs.declared.words.Command.TheVariants as commands
+use Rattle.ocm_commands_files.specs.Words.{most_bytes}
+use Rattle.ocm_commands_files.specs.declared.ends.End.TheVariants as whole
+use Rattle.ocm_commands_files.specs.declared.words.Command.TheVariants as commands
 
 -- the summary of a run
 pub drilled : (number events : ℕ) (old new : Option (List ℕ)) (final : World) (shelf : List Place) → Drills number events old new final → AreShelved final shelf → (bytes : List ℕ) → length bytes ≤ most_bytes (commands.Drill number events) → Writes (commands.Drill number events) bytes whole.Done old new shelf

@@ -7,14 +7,14 @@ use mathlib.Core.Logic.{inl, inr}
 use Rattle.ocm_base.specs.Outside.{AppendsPart}
 use Rattle.ocm_disk.specs.declared.shelf.Place.{Place}
 use Rattle.ocm_commands.specs.Commands.{Gives, Writes, WritesPart}
-use Rattle.ocm_commands_checks.specs.Commands.{GivesPlain, IsStatus, WritesPlain, WritesPlainPart, end_status, status_of}
-use Rattle.ocm_commands_checks.specs.Words.{AreOf, AreOther, input_of, most_bytes}
-use Rattle.ocm_commands_checks.specs.declared.ends.End.{End}
-use Rattle.ocm_commands_checks.specs.declared.ends.End.TheVariants as whole
-use Rattle.ocm_commands_checks.specs.declared.ends.Fault.{Fault}
-use Rattle.ocm_commands_checks.specs.declared.ends.Fault.TheVariants as faults
-use Rattle.ocm_commands_checks.specs.declared.words.Command.{Command}
-use Rattle.ocm_commands_checks.specs.declared.words.Command.TheVariants as commands
+use Rattle.ocm_commands_files.specs.Commands.{GivesPlain, IsStatus, WritesPlain, WritesPlainPart, end_status, status_of}
+use Rattle.ocm_commands_files.specs.Words.{AreOf, AreOther, input_of, most_bytes}
+use Rattle.ocm_commands_files.specs.declared.ends.End.{End}
+use Rattle.ocm_commands_files.specs.declared.ends.End.TheVariants as whole
+use Rattle.ocm_commands_files.specs.declared.ends.Fault.{Fault}
+use Rattle.ocm_commands_files.specs.declared.ends.Fault.TheVariants as faults
+use Rattle.ocm_commands_files.specs.declared.words.Command.{Command}
+use Rattle.ocm_commands_files.specs.declared.words.Command.TheVariants as commands
 
 -- a front of the text of a whole run is a front of what the command writes
 pub front-part : (command : Command) (bytes : List ℕ) (old new : Option (List ℕ)) (end : End) (text : List ℕ) → length bytes ≤ most_bytes command → Gives command bytes end text None → AppendsPart old new text → WritesPart command bytes old new

@@ -1,11 +1,11 @@
 use Rattle.std.specs.Prelude.{◌≡◌, ℕ, ◌≤◌, ◌⊎◌, List, ◌++◌, length, Option, Some, None}
 use Rattle.ocm_base.specs.Outside.{Appends}
 use Rattle.ocm_disk.specs.declared.shelf.Place.{Place}
-use Rattle.ocm_commands_checks.specs.declared.ends.End.{End}
-use Rattle.ocm_commands_checks.specs.declared.words.Command.{Command}
-use Rattle.ocm_commands_checks.specs.declared.words.Command.TheVariants as commands
-use Rattle.ocm_commands_checks.specs.Commands.{GivesPlain}
-use Rattle.ocm_commands_checks.specs.Words.{most_bytes}
+use Rattle.ocm_commands_files.specs.declared.ends.End.{End}
+use Rattle.ocm_commands_files.specs.declared.words.Command.{Command}
+use Rattle.ocm_commands_files.specs.declared.words.Command.TheVariants as commands
+use Rattle.ocm_commands_files.specs.Commands.{GivesPlain}
+use Rattle.ocm_commands_files.specs.Words.{most_bytes}
 use Rattle.ocm_commands.specs.Scripts.{DrillsTo, Replays, TracesTo}
 
 -- on these bytes the command has this end, writes this text, and leaves this shelf, where that is told

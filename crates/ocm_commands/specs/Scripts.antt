@@ -7,14 +7,14 @@ use Rattle.ocm_drill.specs.Script.{made_script}
 use Rattle.ocm_script.specs.Script.{script_of}
 use Rattle.ocm_script.specs.declared.events.Event.{Event}
 use Rattle.ocm_script.specs.declared.faults.ScriptFault.TheVariants as ends
-use Rattle.ocm_world_lines.specs.Drills.{Texts, summary_of}
-use Rattle.ocm_world_lines.specs.Servers.{World}
+use Rattle.ocm_script_run.specs.Drills.{Texts, summary_of}
+use Rattle.ocm_script_run.specs.Servers.{World}
 use Rattle.ocm_world.specs.Shelves.{AreShelved}
-use Rattle.ocm_world_lines.specs.Traces.{Logged, log_input, names}
-use Rattle.ocm_world_lines.specs.Transcript.{Transcript}
-use Rattle.ocm_commands_checks.specs.Lines.{bad_line}
-use Rattle.ocm_commands_checks.specs.declared.ends.End.{End}
-use Rattle.ocm_commands_checks.specs.declared.ends.End.TheVariants as whole
+use Rattle.ocm_script_run.specs.Traces.{Logged, log_input, names}
+use Rattle.ocm_script_run.specs.Transcript.{Transcript}
+use Rattle.ocm_commands_files.specs.Lines.{bad_line}
+use Rattle.ocm_commands_files.specs.declared.ends.End.{End}
+use Rattle.ocm_commands_files.specs.declared.ends.End.TheVariants as whole
 
 -- the shelf, where it is told, has the disks of these servers
 abbrev pub IfShelved : Option (List Place) → World → Type 0

@@ -1,15 +1,15 @@
 ghost use Rattle.std.specs.Prelude.{◌≡◌, ◌≢◌, ◌⊎◌, ◌≤◌, [], OnOk, OnErr, IfOk, IfSome, length, true, false};
 ghost use Rattle.ocm_base.specs.Outside.{Appends, AppendsPart, Rose};
-ghost use Rattle.ocm_options.specs.Plans.{texts};
+ghost use Rattle.ocm_serve_options.specs.Plans.{texts};
 ghost use Rattle.ocm_commands.specs.Commands.{Writes, WritesPart};
-ghost use Rattle.ocm_commands_checks.specs.Commands.{IsLong, IsStatus, IsWhole, end_status, usage_line};
-ghost use Rattle.ocm_commands_checks.specs.Words.{AreOf, AreOther, BeginTrace, IsSmall, input_of, most_bytes, reads};
+ghost use Rattle.ocm_commands_files.specs.Commands.{IsLong, IsStatus, IsWhole, end_status, usage_line};
+ghost use Rattle.ocm_commands_files.specs.Words.{AreOf, AreOther, BeginTrace, IsSmall, input_of, most_bytes, reads};
 
 use crate::drills::run_drill;
 use crate::scripts::run_script;
 use crate::traces::run_trace;
 use ocm_base::{Bytes, NoMemory, Sink, Source};
-use ocm_commands_checks::{Command, End, Fault, read_input, run_plain, status_of, usage};
+use ocm_commands_files::{Command, End, Fault, read_input, run_plain, status_of, usage};
 use ocm_disk::Shelf;
 use std::alloc::Global;
 

@@ -1,10 +1,10 @@
 ghost use Rattle.std.specs.Prelude.{◌≡◌, ◌≢◌, ◌≤◌, [], OnErr, IfOk, List, ℕ, length};
 ghost use Rattle.ocm_base.specs.Outside.{Rose};
 ghost use Rattle.ocm_commands.specs.Commands.{Writes, WritesPart};
-ghost use Rattle.ocm_commands_checks.specs.Words.{most_bytes};
+ghost use Rattle.ocm_commands_files.specs.Words.{most_bytes};
 
 use ocm_base::Sink;
-use ocm_commands_checks::{Command, End, Fault};
+use ocm_commands_files::{Command, End, Fault};
 use ocm_disk::Shelf;
 use ocm_world::{WorldFault, drill};
 use std::alloc::Global;

@@ -1,5 +1,5 @@
 //! The commands of the program `ocmd` that work on standard input, or on nothing, over any source and sink: `replay`,
-//! `trace` and `drill`, which run servers of a script, and by way of `ocm_commands_checks` the plain ones.
+//! `trace` and `drill`, which run servers of a script, and by way of `ocm_commands_files` the plain ones.
 #![tactic(auto)]
 
 mod commands;

@@ -1,11 +1,11 @@
 ghost use Rattle.std.specs.Prelude.{◌≡◌, ◌≢◌, ◌≤◌, [], OnErr, IfOk, length};
 ghost use Rattle.ocm_base.specs.Outside.{Rose};
 ghost use Rattle.ocm_commands.specs.Commands.{Writes, WritesPart};
-ghost use Rattle.ocm_commands_checks.specs.Commands.{IsLong};
-ghost use Rattle.ocm_commands_checks.specs.Words.{most_bytes};
+ghost use Rattle.ocm_commands_files.specs.Commands.{IsLong};
+ghost use Rattle.ocm_commands_files.specs.Words.{most_bytes};
 
 use ocm_base::Sink;
-use ocm_commands_checks::{Command, End, Fault, name_line};
+use ocm_commands_files::{Command, End, Fault, name_line};
 use ocm_disk::Shelf;
 use ocm_script::{ScriptFault, read_script};
 use ocm_world::{WorldFault, replay};

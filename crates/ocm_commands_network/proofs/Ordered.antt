@@ -3,8 +3,8 @@ use Rattle.std.proofs.Common.{◌≡◌, ℕ, ◌≤◌, List, Bool, true, false
 use Rattle.std.specs.Prelude.{◌&&◌, nat_le, codes}
 use Rattle.std.proofs.lemmas.Option.{cond_some, none-some, option_and_then_some, same_Some}
 use Rattle.clap.specs.Words.{Row, Text, matches_of, fault_of}
-use Rattle.ocm_options.specs.declared.plans.Orders.{Orders}
-use Rattle.ocm_options.specs.Plans.{asks_serve, is_none, names_at, number_at, numbers_at, places_at, orders_by, orders_of, serve, workers_of}
+use Rattle.ocm_serve_options.specs.declared.plans.Orders.{Orders}
+use Rattle.ocm_serve_options.specs.Plans.{asks_serve, is_none, names_at, number_at, numbers_at, places_at, orders_by, orders_of, serve, workers_of}
 
 least : (n w : ℕ) → workers_of n ≡ Some w → 1 ≤ w
 least n w is = let k = cond_some (nat_le 1 n && nat_le n 64) n w is in subst (λ (m : ℕ). 1 ≤ m) k.1 (search (k.0, rules))

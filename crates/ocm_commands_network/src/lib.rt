@@ -4,6 +4,6 @@
 mod remotes;
 mod servers;
 
-pub use ocm_options::asks_serve;
+pub use ocm_serve_options::asks_serve;
 pub use remotes::{asks_remote, run_remote, told};
 pub use servers::run_server;

@@ -3,13 +3,13 @@ ghost use Rattle.std.specs.Prelude.{◌≡◌, ◌⊎◌, map};
 ghost use Rattle.std.specs.String.{string_bytes};
 ghost use Rattle.ocm_base.specs.Outside.{Appends, Rose};
 ghost use Rattle.ocm_commands_network.specs.Words as specified;
-ghost use Rattle.ocm_remote.specs.Answers.{status_of};
-ghost use Rattle.ocm_remote.specs.Exchanges.{AsksPut};
-ghost use Rattle.ocm_remote.specs.Words.{IsOther, usage_line};
+ghost use Rattle.ocm_commands_dav.specs.Answers.{status_of};
+ghost use Rattle.ocm_commands_dav.specs.Exchanges.{AsksPut};
+ghost use Rattle.ocm_commands_dav.specs.Words.{IsOther, usage_line};
 
 use ocm_base::{Sink, Source};
-use ocm_network::ClientDial;
-use ocm_remote::{End, remote};
+use ocm_commands_dav::{End, remote};
+use ocm_net_adapters::ClientDial;
 use std::alloc::Global;
 use std::io::Eprint;
 use std::net::{Net, TcpListener, TcpStream};

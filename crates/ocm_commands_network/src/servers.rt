@@ -1,14 +1,14 @@
 //! The command `serve`.
 ghost use Rattle.std.specs.Prelude.{◌≡◌, ◌⊎◌, ◌≤◌, None};
 ghost use Rattle.ocm_base.specs.Outside.{Appends, Rose};
-ghost use Rattle.ocm_options.specs.Plans.{orders_of, texts};
+ghost use Rattle.ocm_serve_options.specs.Plans.{orders_of, texts};
 ghost use Rattle.ocm_serve_system.specs.Statuses.{IsStatus};
-ghost use Rattle.ocm_commands_checks.specs.Commands.{usage_line};
+ghost use Rattle.ocm_commands_files.specs.Commands.{usage_line};
 
 use ocm_base::Sink;
-use ocm_commands_checks::usage;
-use ocm_options::{Orders, PlanFault, read_plan};
+use ocm_commands_files::usage;
 use ocm_serve::run;
+use ocm_serve_options::{Orders, PlanFault, read_plan};
 use ocm_serve_system::{read_admin, tell_fault};
 use std::alloc::Global;
 use std::fs::File;

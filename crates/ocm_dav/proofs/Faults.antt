@@ -3,12 +3,12 @@ use Rattle.std.proofs.Common.{◌≡◌, ℕ, List, Bool, true, false, Result, O
 use Rattle.std.specs.Prelude.{IfOk, IsErr}
 use Rattle.std.proofs.lemmas.Bool.{cond-false, false≢true}
 use Rattle.ocm_texts.specs.declared.failures.NoMemory.{NoMemory}
-use Rattle.ocm_heads.specs.declared.fields.Field.{Field}
+use Rattle.ocm_http_heads.specs.declared.fields.Field.{Field}
 use Rattle.ocm_records.specs.declared.faults.RecordFault.{RecordFault}
 use Rattle.ocm_records.specs.declared.faults.RecordFault.TheVariants as faults
 use Rattle.ocm_records.specs.Rows.{Fails}
 use Rattle.ocm_davmore.specs.Destinations.{begins_with_slash}
-use Rattle.ocm_pages.specs.declared.shapes.Allow.TheVariants.{Dav}
+use Rattle.ocm_dav_pages.specs.declared.shapes.Allow.TheVariants.{Dav}
 use Rattle.ocm_dav.specs.declared.configs.Config.{Config}
 use Rattle.ocm_dav.specs.declared.wants.Wanted.{Wanted}
 use Rattle.ocm_dav.specs.Refusals.{told}

@@ -10,9 +10,9 @@ use Rattle.ocm_entry.specs.declared.asks.Method.{Method}
 use Rattle.ocm_entry.specs.declared.asks.Method.TheVariants as methods
 use Rattle.ocm_entry.specs.declared.asks.Ask.TheVariants as asks
 use Rattle.ocm_entry.specs.Proper.{is_short, is_body_of}
-use Rattle.ocm_heads.specs.declared.fields.Field.{Field}
-use Rattle.ocm_heads.specs.declared.fields.Head.{Head}
-use Rattle.ocm_heads.specs.declared.fields.Head.TheVariants as heads
+use Rattle.ocm_http_heads.specs.declared.fields.Field.{Field}
+use Rattle.ocm_http_heads.specs.declared.fields.Head.{Head}
+use Rattle.ocm_http_heads.specs.declared.fields.Head.TheVariants as heads
 use Rattle.ocm_http.specs.declared.messages.Message.{Message}
 use Rattle.ocm_records.specs.Rows.{record_of}
 use Rattle.ocm_records.specs.Offers.{offer}
@@ -26,10 +26,10 @@ use Rattle.ocm_davmore.specs.declared.faults.DestinationFault.TheVariants.{Other
 use Rattle.ocm_davmore.specs.Destinations.{begins_with_slash, before_query, below_dav, destination_of}
 use Rattle.ocm_davmore.specs.Ranges.{is_span, span_of}
 use Rattle.ocm_davmore.proofs.RangeForms.{sound_of}
-use Rattle.ocm_pages.specs.declared.shapes.Allow.{Allow}
-use Rattle.ocm_pages.specs.declared.shapes.Allow.TheVariants.{Discovery, Post, Dav}
-use Rattle.ocm_pages.specs.declared.shapes.Shape.{Shape}
-use Rattle.ocm_pages.specs.declared.shapes.Page.{Page}
+use Rattle.ocm_dav_pages.specs.declared.shapes.Allow.{Allow}
+use Rattle.ocm_dav_pages.specs.declared.shapes.Allow.TheVariants.{Discovery, Post, Dav}
+use Rattle.ocm_dav_pages.specs.declared.shapes.Shape.{Shape}
+use Rattle.ocm_dav_pages.specs.declared.shapes.Page.{Page}
 use Rattle.ocm_dav.specs.declared.configs.Config.{Config}
 use Rattle.ocm_dav.specs.declared.depths.Depth.{Depth}
 use Rattle.ocm_dav.specs.declared.depths.Depth.TheVariants.{Zero, One, Infinity}

@@ -2,11 +2,11 @@
 use Rattle.std.specs.Prelude.{ℕ, Bool, List, codes, Option, Some, None, Result, Ok, Err}
 use Rattle.ocm_path.specs.Paths.{Segments}
 use Rattle.ocm_entry.specs.declared.asks.Ask.TheVariants as asks
-use Rattle.ocm_heads.specs.declared.fields.Field.{Field}
+use Rattle.ocm_http_heads.specs.declared.fields.Field.{Field}
 use Rattle.ocm_davmore.specs.Destinations.{destination_of}
 use Rattle.ocm_davmore.specs.declared.faults.DestinationFault.{DestinationFault}
 use Rattle.ocm_davmore.specs.declared.faults.DestinationFault.TheVariants.{OtherServer, BadPath, NoMemory}
-use Rattle.ocm_pages.specs.declared.shapes.Shape.{Shape}
+use Rattle.ocm_dav_pages.specs.declared.shapes.Shape.{Shape}
 use Rattle.ocm_dav.specs.declared.depths.Depth.{Depth}
 use Rattle.ocm_dav.specs.declared.depths.Depth.TheVariants.{Zero, One, Infinity}
 use Rattle.ocm_dav.specs.declared.wants.Wanted.{Wanted}

@@ -5,7 +5,7 @@ use Rattle.std.specs.Str.{is_utf8}
 use Rattle.base64.specs.declared.decode.DecodeError.{DecodeError}
 use Rattle.base64.specs.Engines.{standard}
 use Rattle.base64.specs.GeneralPurpose.{decode_of}
-use Rattle.ocm_heads.specs.declared.fields.Field.{Field}
+use Rattle.ocm_http_heads.specs.declared.fields.Field.{Field}
 use Rattle.ocm_types.specs.Hosts.{cut_at_first}
 use Rattle.ocm_types.specs.Texts.{secret_of}
 use Rattle.ocm_dav.specs.Fields.{first_value, is_word}

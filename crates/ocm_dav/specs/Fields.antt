@@ -2,7 +2,7 @@
 -- around them.
 use Rattle.std.specs.Prelude.{ℕ, Bool, List, map, find, bytes_eq, Option, option_map}
 use Rattle.std.specs.Char.{to_ascii_lowercase}
-use Rattle.ocm_heads.specs.declared.fields.Field.{Field}
+use Rattle.ocm_http_heads.specs.declared.fields.Field.{Field}
 
 -- the value of the first field with a name; further ones are passed over
 abbrev pub first_value : List ℕ → List Field → Option (List ℕ)

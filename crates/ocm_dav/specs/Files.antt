@@ -6,8 +6,8 @@ use Rattle.ocm_entry.specs.declared.asks.Ask.TheVariants as asks
 use Rattle.ocm_entry.specs.declared.asks.Method.{Method}
 use Rattle.ocm_entry.specs.declared.asks.Method.TheVariants as methods
 use Rattle.ocm_entry.specs.declared.refusals.Why.TheVariants as reasons
-use Rattle.ocm_heads.specs.declared.fields.Field.{Field}
-use Rattle.ocm_pages.specs.declared.shapes.Shape.{Shape}
+use Rattle.ocm_http_heads.specs.declared.fields.Field.{Field}
+use Rattle.ocm_dav_pages.specs.declared.shapes.Shape.{Shape}
 use Rattle.ocm_dav.specs.declared.depths.Depth.{Depth}
 use Rattle.ocm_dav.specs.declared.depths.Depth.TheVariants.{Zero, One, Infinity}
 use Rattle.ocm_dav.specs.declared.verbs.Verb.{Verb}

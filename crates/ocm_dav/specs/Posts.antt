@@ -13,10 +13,10 @@ use Rattle.ocm_records.specs.Commands.{local}
 use Rattle.ocm_records.specs.declared.faults.RecordFault.{RecordFault}
 use Rattle.ocm_records.specs.declared.values.LocalAsk.{LocalAsk}
 use Rattle.ocm_records.specs.declared.values.LocalAsk.TheVariants as locals
-use Rattle.ocm_heads.specs.declared.fields.Field.{Field}
-use Rattle.ocm_pages.specs.declared.shapes.Shape.{Shape}
-use Rattle.ocm_pages.specs.declared.shapes.Page.{Page}
-use Rattle.ocm_pages.specs.Pages.{message_page}
+use Rattle.ocm_http_heads.specs.declared.fields.Field.{Field}
+use Rattle.ocm_dav_pages.specs.declared.shapes.Shape.{Shape}
+use Rattle.ocm_dav_pages.specs.declared.shapes.Page.{Page}
+use Rattle.ocm_dav_pages.specs.Pages.{message_page}
 use Rattle.ocm_dav.specs.declared.wants.Wanted.{Wanted}
 use Rattle.ocm_dav.specs.declared.wants.Wanted.TheVariants as wanted
 use Rattle.ocm_dav.specs.Credentials.{credentials_of}

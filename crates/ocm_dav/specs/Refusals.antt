@@ -4,9 +4,9 @@ use Rattle.ocm_path.specs.declared.faults.PathFault.{PathFault}
 use Rattle.ocm_entry.specs.declared.refusals.Why.{Why}
 use Rattle.ocm_entry.specs.declared.replies.Reply.TheVariants as replies
 use Rattle.ocm_records.specs.declared.faults.RecordFault.{RecordFault}
-use Rattle.ocm_pages.specs.declared.shapes.Shape.{Shape}
-use Rattle.ocm_pages.specs.declared.shapes.Page.{Page}
-use Rattle.ocm_pages.specs.Pages as pages
+use Rattle.ocm_dav_pages.specs.declared.shapes.Shape.{Shape}
+use Rattle.ocm_dav_pages.specs.declared.shapes.Page.{Page}
+use Rattle.ocm_dav_pages.specs.Pages as pages
 use Rattle.ocm_dav.specs.declared.wants.Wanted.{Wanted}
 use Rattle.ocm_dav.specs.declared.wants.Wanted.TheVariants as wanted
 use Rattle.ocm_dav.specs.Paths.{path_message}

@@ -1,14 +1,14 @@
 -- The routes of a server: what a request wants, by its target.
 use Rattle.std.specs.Prelude.{ℕ, Bool, true, ◌||◌, List, [], codes, bytes_eq, if◌then◌else◌, Option, Some, None}
 use Rattle.ocm_entry.specs.declared.refusals.Why.TheVariants as reasons
-use Rattle.ocm_heads.specs.declared.fields.Field.{Field}
-use Rattle.ocm_heads.specs.declared.fields.Head.{Head}
-use Rattle.ocm_heads.specs.declared.fields.Head.TheVariants as heads
+use Rattle.ocm_http_heads.specs.declared.fields.Field.{Field}
+use Rattle.ocm_http_heads.specs.declared.fields.Head.{Head}
+use Rattle.ocm_http_heads.specs.declared.fields.Head.TheVariants as heads
 use Rattle.ocm_http.specs.declared.messages.Message.{Message}
 use Rattle.ocm_davmore.specs.Destinations.{begins_with_slash, before_query, below_dav}
-use Rattle.ocm_pages.specs.declared.shapes.Allow.TheVariants.{Discovery, Post, Dav}
-use Rattle.ocm_pages.specs.declared.shapes.Shape.{Shape}
-use Rattle.ocm_pages.specs.Pages.{discovery_page}
+use Rattle.ocm_dav_pages.specs.declared.shapes.Allow.TheVariants.{Discovery, Post, Dav}
+use Rattle.ocm_dav_pages.specs.declared.shapes.Shape.{Shape}
+use Rattle.ocm_dav_pages.specs.Pages.{discovery_page}
 use Rattle.ocm_dav.specs.declared.configs.Config.{Config}
 use Rattle.ocm_dav.specs.declared.wants.Wanted.{Wanted}
 use Rattle.ocm_dav.specs.declared.wants.Wanted.TheVariants as wanted

@@ -1,8 +1,8 @@
 -- What a request says of the page that answers it.
 use Rattle.std.specs.Prelude.{ℕ, Bool, List, codes, bytes_eq, Option, None, option_and_then}
-use Rattle.ocm_heads.specs.declared.fields.Field.{Field}
-use Rattle.ocm_pages.specs.declared.shapes.Allow.{Allow}
-use Rattle.ocm_pages.specs.declared.shapes.Shape.{Shape}
+use Rattle.ocm_http_heads.specs.declared.fields.Field.{Field}
+use Rattle.ocm_dav_pages.specs.declared.shapes.Allow.{Allow}
+use Rattle.ocm_dav_pages.specs.declared.shapes.Shape.{Shape}
 use Rattle.ocm_davmore.specs.declared.ranges.Span.{Span}
 use Rattle.ocm_davmore.specs.Ranges.{span_of}
 use Rattle.ocm_dav.specs.Fields.{first_value}

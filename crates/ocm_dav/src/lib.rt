@@ -19,7 +19,7 @@ mod verbs;
 mod wants;
 
 pub use configs::Config;
-pub use ocm_pages::{Allow, Page, Shape};
+pub use ocm_dav_pages::{Allow, Page, Shape};
 pub use routes::ask_of;
 pub use secrets::credentials;
 pub use wants::Wanted;

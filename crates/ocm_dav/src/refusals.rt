@@ -2,14 +2,14 @@
 
 ghost use Rattle.std.specs.Prelude.{◌≡◌, ◌≤◌, length, IfOk, IsErr, None};
 ghost use Rattle.ocm_entry.specs.declared.replies.Reply.TheVariants as replies;
-ghost use Rattle.ocm_pages.specs.Pages as pages;
+ghost use Rattle.ocm_dav_pages.specs.Pages as pages;
 ghost use Rattle.ocm_dav.specs.Refusals as refusals;
 
 use crate::paths::path_message;
 use crate::wants::Wanted;
 use ocm_base::NoMemory;
+use ocm_dav_pages::{Page, Shape, fault_page, finite_depth_page, message_page, page_of};
 use ocm_entry::{Reply, Why};
-use ocm_pages::{Page, Shape, fault_page, finite_depth_page, message_page, page_of};
 use ocm_path::PathFault;
 use ocm_records::RecordFault;
 use std::alloc::Global;

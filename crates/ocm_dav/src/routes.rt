@@ -14,10 +14,10 @@ use crate::refusals::{bad_request, refused};
 use crate::shapes::shape_of;
 use crate::wants::Wanted;
 use ocm_base::{Bytes, List, NoMemory};
+use ocm_dav_pages::{Allow, Shape, discovery_page};
 use ocm_davmore::{before_query, begins_with_slash, below_dav};
 use ocm_entry::Why;
 use ocm_http::{Field, Head, Message};
-use ocm_pages::{Allow, Shape, discovery_page};
 use ocm_types::{Fresh, Host};
 use std::alloc::Global;
 

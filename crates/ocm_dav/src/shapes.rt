@@ -2,9 +2,9 @@ ghost use Rattle.std.specs.Prelude.{◌≡◌};
 ghost use Rattle.ocm_dav.specs.Shapes as shapes;
 
 use crate::fields::first_value;
+use ocm_dav_pages::{Allow, Shape};
 use ocm_davmore::{Span, read_range};
 use ocm_http::Field;
-use ocm_pages::{Allow, Shape};
 
 /// The shape of the page that answers a request, without a range.
 pub(crate) fn shape_of(method: &str, closing: bool, allow: Allow) -> Shape

@@ -1,5 +1,5 @@
+use ocm_dav_pages::{Page, Shape};
 use ocm_entry::Ask;
-use ocm_pages::{Page, Shape};
 
 /// What a request wants.
 #[derive(Drop)]

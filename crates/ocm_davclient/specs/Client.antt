@@ -1,7 +1,7 @@
 -- A client of one server's files over WebDAV (RFC 4918): what it sends, and what it answers by what comes back.
 use Rattle.std.specs.Prelude.{◌≡◌, ℕ, ◌==◌, if◌then◌else◌, List, [], ◌++◌, codes, Option, Some, None, Result, Ok, Err}
-use Rattle.ocm_heads.specs.declared.fields.Head.{Head}
-use Rattle.ocm_heads.specs.declared.fields.Head.TheVariants.{Request, Reply}
+use Rattle.ocm_http_heads.specs.declared.fields.Head.{Head}
+use Rattle.ocm_http_heads.specs.declared.fields.Head.TheVariants.{Request, Reply}
 use Rattle.ocm_http.specs.Written.{written_request}
 use Rattle.ocm_http.specs.declared.messages.Message.{Message}
 use Rattle.ocm_path.specs.Paths.{Segments, path_escaped}

@@ -7,11 +7,11 @@ use Rattle.std.proofs.Math.Seq.{split_at, take-length}
 use Rattle.ocm_entry.specs.declared.asks.Ask.{Ask}
 use Rattle.ocm_entry.specs.declared.asks.Ask.TheVariants.{Tick}
 use Rattle.ocm_entry.specs.declared.entries.Entry.{Entry}
-use Rattle.ocm_image.specs.declared.readings.RawRecord.{RawRecord}
-use Rattle.ocm_image.specs.Layout.{contents}
-use Rattle.ocm_audit.specs.declared.stamps.Stamped.{Stamped}
-use Rattle.ocm_audit.specs.declared.stamps.Stamped.TheVariants as stamps
-use Rattle.ocm_audit.specs.Stamps.{stamped_of}
+use Rattle.ocm_journal_image.specs.declared.readings.RawRecord.{RawRecord}
+use Rattle.ocm_journal_image.specs.Layout.{contents}
+use Rattle.ocm_journal_audit.specs.declared.stamps.Stamped.{Stamped}
+use Rattle.ocm_journal_audit.specs.declared.stamps.Stamped.TheVariants as stamps
+use Rattle.ocm_journal_audit.specs.Stamps.{stamped_of}
 use Rattle.ocm_rules.specs.History.{changes, kept}
 use Rattle.ocm_rules.specs.Shares.{moment}
 use Rattle.ocm_core.specs.Standing.{IsAfter}

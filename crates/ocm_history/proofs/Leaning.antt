@@ -11,8 +11,8 @@ use Rattle.ocm_law_origins.proofs.Bodies.{body-gone, body-put_by_entry}
 use Rattle.ocm_law_sessions.specs.Sessions.{heard, would_change}
 use Rattle.ocm_law_sessions.specs.Written.{ask_records, records_of}
 use Rattle.ocm_core.specs.Standing.{body_of, standing_body}
-use Rattle.ocm_history_kept.specs.Kept.{kept_of, kept_records, lean_asks, lean_texts}
-use Rattle.ocm_history_kept.proofs.Leaning.{AreStanding, asks-emptied, body_if, texts-emptied}
+use Rattle.ocm_history_records.specs.Kept.{kept_of, kept_records, lean_asks, lean_texts}
+use Rattle.ocm_history_records.proofs.Leaning.{AreStanding, asks-emptied, body_if, texts-emptied}
 use Rattle.ocm_history.specs.Kept.{bodies_with}
 
 -- the body that stands by the number of an entry

@@ -5,8 +5,8 @@ use Rattle.ocm_entry.specs.declared.asks.Ask.{Ask}
 use Rattle.ocm_entry.specs.declared.entries.Entry.{Entry}
 use Rattle.ocm_entry.specs.declared.replies.Reply.{Reply}
 use Rattle.ocm_entry.specs.Proper.{is_proper}
-use Rattle.ocm_spelling.specs.Spells.{Fits, has_spelling}
-use Rattle.ocm_image.specs.Layout.{AreRecords, blocks_size}
+use Rattle.ocm_entry_bytes.specs.Spells.{Fits, has_spelling}
+use Rattle.ocm_journal_image.specs.Layout.{AreRecords, blocks_size}
 use Rattle.ocm_rules.specs.History.{changes, changes_in, is_failure, kept}
 use Rattle.ocm_rules.specs.Lean.{count, is_tick, lean, leaned}
 use Rattle.ocm_rules.specs.State.{State, after, step, view_in}
@@ -21,12 +21,12 @@ use Rattle.ocm_core.proofs.Numbers.{numbered-same}
 use Rattle.ocm_law_origins.specs.Origins.{origins}
 use Rattle.ocm_core.proofs.Standing.{IsAfter-answered, IsAfter-failed, changes-after, reply-after}
 use Rattle.ocm_core.specs.Standing.{standing_body}
-use Rattle.ocm_history_kept.specs.declared.drafts.Draft.{Draft}
-use Rattle.ocm_history_kept.specs.declared.kept.KeptRecord.{KeptRecord}
-use Rattle.ocm_history_kept.specs.Kept.{IsBound, asked_size, is_tick_record, kept_of, kept_records, lean_asks, lean_text, lean_texts}
-use Rattle.ocm_history_kept.proofs.Counting.{size-behind}
-use Rattle.ocm_history_kept.proofs.Drafting.{asks-sized, count-grows, most-drafted, spelled-more, texts-lengths}
-use Rattle.ocm_history_kept.proofs.Leaning.{length-kept_records}
+use Rattle.ocm_history_records.specs.declared.drafts.Draft.{Draft}
+use Rattle.ocm_history_records.specs.declared.kept.KeptRecord.{KeptRecord}
+use Rattle.ocm_history_records.specs.Kept.{IsBound, asked_size, is_tick_record, kept_of, kept_records, lean_asks, lean_text, lean_texts}
+use Rattle.ocm_history_records.proofs.Counting.{size-behind}
+use Rattle.ocm_history_records.proofs.Drafting.{asks-sized, count-grows, most-drafted, spelled-more, texts-lengths}
+use Rattle.ocm_history_records.proofs.Leaning.{length-kept_records}
 use Rattle.ocm_history.specs.declared.histories.History.{History}
 use Rattle.ocm_history.specs.Changes.{IsChange, told}
 use Rattle.ocm_history.specs.Histories.{IsOf, SameMemory, home_of}

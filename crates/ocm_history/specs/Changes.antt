@@ -3,12 +3,12 @@ use Rattle.std.specs.Prelude.{◌≡◌, ℕ, List, true}
 use Rattle.ocm_entry.specs.declared.asks.Ask.{Ask}
 use Rattle.ocm_entry.specs.declared.entries.Entry.{Entry}
 use Rattle.ocm_entry.specs.declared.replies.Reply.{Reply}
-use Rattle.ocm_spelling.specs.Spells.{Fits}
+use Rattle.ocm_entry_bytes.specs.Spells.{Fits}
 use Rattle.ocm_plan.specs.Plans.{Plan, Plans}
 use Rattle.ocm_law_sessions.specs.Sessions.{fits}
 use Rattle.ocm_tables.specs.Changes.{is_kept}
-use Rattle.ocm_history_kept.specs.declared.drafts.Draft.{Draft}
-use Rattle.ocm_history_kept.specs.Drafts.{IsDraft}
+use Rattle.ocm_history_records.specs.declared.drafts.Draft.{Draft}
+use Rattle.ocm_history_records.specs.Drafts.{IsDraft}
 use Rattle.ocm_history.specs.declared.histories.History.{History}
 use Rattle.ocm_history.specs.Histories.{IsOf, home_of}
 

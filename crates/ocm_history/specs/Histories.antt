@@ -8,7 +8,7 @@ use Rattle.ocm_plan.specs.Plans.{Plan}
 use Rattle.ocm_core.specs.Standing.{IsAfter, IsNumbered}
 use Rattle.ocm_law_sessions.specs.Written.{IsSpelled, asks_size}
 use Rattle.ocm_history.specs.declared.histories.History.{History}
-use Rattle.ocm_history_kept.specs.Kept.{IsBound, kept_records}
+use Rattle.ocm_history_records.specs.Kept.{IsBound, kept_records}
 
 -- the host of a server
 abbrev pub home_of : History → List ℕ

@@ -5,8 +5,8 @@ use Rattle.ocm_rules.specs.History.{kept}
 use Rattle.ocm_rules.specs.Shares.{moment}
 use Rattle.ocm_law_sessions.specs.Readings.{with_moment}
 use Rattle.ocm_history.specs.declared.histories.History.{History}
-use Rattle.ocm_history_kept.specs.declared.faults.ReplayFault.{ReplayFault}
-use Rattle.ocm_history_kept.specs.declared.faults.ReplayFault.TheVariants.{Refused, NoMemory}
+use Rattle.ocm_history_records.specs.declared.faults.ReplayFault.{ReplayFault}
+use Rattle.ocm_history_records.specs.declared.faults.ReplayFault.TheVariants.{Refused, NoMemory}
 use Rattle.ocm_history.specs.Histories.{IsOf, home_of}
 
 -- the memory of a server stands for this list, all of which is kept

@@ -5,8 +5,8 @@ ghost use Rattle.ocm_entry.specs.declared.asks.Ask.{Ask};
 ghost use Rattle.ocm_entry.specs.declared.entries.Entry.{Entry};
 ghost use Rattle.ocm_entry.specs.Proper.{is_proper};
 ghost use Rattle.ocm_core.specs.Standing.{IsPlanned};
-ghost use Rattle.ocm_image.specs.Layout.{AreRecords};
-ghost use Rattle.ocm_history_kept.specs.declared.drafts.Draft.{Draft};
+ghost use Rattle.ocm_journal_image.specs.Layout.{AreRecords};
+ghost use Rattle.ocm_history_records.specs.declared.drafts.Draft.{Draft};
 ghost use Rattle.ocm_plan.specs.Plans.{Plans};
 ghost use Rattle.ocm_rules.specs.Lean.{lean};
 ghost use Rattle.ocm_law_sessions.specs.Sessions.{heard, would_change};
@@ -14,12 +14,12 @@ ghost use Rattle.ocm_law_sessions.specs.Written.{asks_size, records_of};
 ghost use Rattle.ocm_tables.specs.Changes.{is_kept};
 ghost use Rattle.ocm_history.specs.Changes.{IsChange, told};
 ghost use Rattle.ocm_history.specs.Histories.{HasPlace, IsOf, SameMemory, home_of};
-ghost use Rattle.ocm_history_kept.specs.Kept.{IsBound, is_tick_record};
+ghost use Rattle.ocm_history_records.specs.Kept.{IsBound, is_tick_record};
 
 use ocm_base::{Bytes, List, NoMemory};
 use ocm_core::{Core, Planned};
 use ocm_entry::{Ask, Reply};
-use ocm_history_kept::{Draft, KeptRecord, KeptRecords, RecordFault, add_asked, add_text};
+use ocm_history_records::{Draft, KeptRecord, KeptRecords, RecordFault, add_asked, add_text};
 use ocm_types::Host;
 use std::alloc::Global;
 

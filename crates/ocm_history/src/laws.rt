@@ -7,7 +7,7 @@ ghost use Rattle.ocm_rules.specs.History.{kept};
 ghost use Rattle.ocm_rules.specs.Lean.{emptied_among, lean};
 ghost use Rattle.ocm_law_sessions.specs.Sessions.{heard, would_change};
 ghost use Rattle.ocm_law_sessions.specs.Written.{ask_records, records_of};
-ghost use Rattle.ocm_history_kept.specs.Kept.{kept_of, kept_records, lean_asks, lean_texts};
+ghost use Rattle.ocm_history_records.specs.Kept.{kept_of, kept_records, lean_asks, lean_texts};
 ghost use Rattle.ocm_history.specs.Kept.{bodies_with};
 
 /// What is kept in memory makes the records of the lean list: of all that is kept, and of one entry more.

@@ -12,5 +12,5 @@ pub mod laws;
 mod reading;
 
 pub use histories::{History, let_go};
-pub use ocm_history_kept::{Draft, KeptRecord, KeptRecords, RecordFault, ReplayFault};
+pub use ocm_history_records::{Draft, KeptRecord, KeptRecords, RecordFault, ReplayFault};
 pub use reading::take_records;

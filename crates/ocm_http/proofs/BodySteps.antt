@@ -3,11 +3,11 @@ use Rattle.std.proofs.Common.{◌≡◌, ℕ, ◌+◌, ◌-◌, ◌<◌, List, �
 use Rattle.std.proofs.lemmas.List.{drop-append-le}
 use Rattle.std.proofs.lemmas.Bool.Decides.{nat_tests}
 use Rattle.std.proofs.Math.Seq.{take-append-add, drop-append-add}
-use Rattle.ocm_heads.specs.Endings.{found, moved, further}
-use Rattle.ocm_heads.specs.declared.endings.Look.{Look}
-use Rattle.ocm_heads.specs.declared.endings.Found.{Found}
-use Rattle.ocm_heads.specs.declared.endings.Found.TheVariants as finds
-use Rattle.ocm_heads.proofs.Looks.{found_on, whole_stays, long_stays, unfinished_size, whole_within}
+use Rattle.ocm_http_heads.specs.Endings.{found, moved, further}
+use Rattle.ocm_http_heads.specs.declared.endings.Look.{Look}
+use Rattle.ocm_http_heads.specs.declared.endings.Found.{Found}
+use Rattle.ocm_http_heads.specs.declared.endings.Found.TheVariants as finds
+use Rattle.ocm_http_heads.proofs.Looks.{found_on, whole_stays, long_stays, unfinished_size, whole_within}
 use Rattle.ocm_http.specs.Places.{past}
 use Rattle.ocm_http.specs.Messages.{more_of}
 use Rattle.ocm_http.specs.Frames.{Frame, Given, sized, trailers, trailers_end}

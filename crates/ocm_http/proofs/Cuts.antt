@@ -1,7 +1,7 @@
 -- The end of input inside a message.
 use Rattle.std.proofs.Common.{◌≡◌, ℕ, List, [], take, drop, Bool, true, false, cond, refl, sym, ap}
 use Rattle.std.proofs.lemmas.Bool.{lt-leb}
-use Rattle.ocm_heads.specs.declared.endings.Look.{Look}
+use Rattle.ocm_http_heads.specs.declared.endings.Look.{Look}
 use Rattle.ocm_http.specs.Messages.{more_of}
 use Rattle.ocm_http.specs.Frames.{Given, Refused}
 use Rattle.ocm_http.specs.Stages.{Stands, Rest, short}

@@ -2,13 +2,13 @@
 use Rattle.std.proofs.Common.{◌≡◌, ℕ, ◌+◌, ◌-◌, ◌<◌, ◌≤◌, List, [], ◌∷◌, ◌++◌, length, Bool, true, false, cond, not, ◌&&◌, nat_eq, ne_eqb, refl, sym, ap, ◌∙◌, subst, arith, length-append}
 use Rattle.std.specs.List.{flat_map, list_all}
 use Rattle.std.proofs.lemmas.Bool.{and_parts, or_parts, not-true}
-use Rattle.ocm_heads.specs.declared.endings.Stand.{Stand}
-use Rattle.ocm_heads.specs.declared.endings.Stand.TheVariants.{Before, InLine, AtLine}
-use Rattle.ocm_heads.specs.declared.endings.Look.{Look}
-use Rattle.ocm_heads.specs.declared.endings.Found.{Found}
-use Rattle.ocm_heads.specs.declared.endings.Found.TheVariants.{Whole, TooLong, Unfinished}
-use Rattle.ocm_heads.specs.Endings.{further, found, moved, stepped, passes, ends, is_blank, of_head}
-use Rattle.ocm_heads.proofs.Looks.{found_on, moved-append}
+use Rattle.ocm_http_heads.specs.declared.endings.Stand.{Stand}
+use Rattle.ocm_http_heads.specs.declared.endings.Stand.TheVariants.{Before, InLine, AtLine}
+use Rattle.ocm_http_heads.specs.declared.endings.Look.{Look}
+use Rattle.ocm_http_heads.specs.declared.endings.Found.{Found}
+use Rattle.ocm_http_heads.specs.declared.endings.Found.TheVariants.{Whole, TooLong, Unfinished}
+use Rattle.ocm_http_heads.specs.Endings.{further, found, moved, stepped, passes, ends, is_blank, of_head}
+use Rattle.ocm_http_heads.proofs.Looks.{found_on, moved-append}
 use Rattle.ocm_http.specs.Written.{line_end}
 
 -- ---- a look that finds nothing

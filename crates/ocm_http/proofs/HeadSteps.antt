@@ -2,12 +2,12 @@
 use Rattle.std.proofs.Common.{◌≡◌, ℕ, ◌+◌, ◌<◌, ◌≤◌, suc, zero, List, [], ◌∷◌, ◌++◌, length, take, drop, Bool, true, false, cond, refl, sym, ap, ◌∙◌, subst, arith, append_assoc, length-append}
 use Rattle.std.proofs.lemmas.List.{length-take-le}
 use Rattle.std.proofs.Math.Seq.{take-append-add}
-use Rattle.ocm_heads.specs.declared.fields.Head.{Head}
-use Rattle.ocm_heads.specs.declared.lengths.Length.TheVariants as lengths
-use Rattle.ocm_heads.specs.declared.endings.Look.{Look}
-use Rattle.ocm_heads.specs.declared.endings.Found.TheVariants as finds
-use Rattle.ocm_heads.specs.Endings.{found, moved, further, blanks, lines, of_head}
-use Rattle.ocm_heads.proofs.Looks.{found_on, moved-append, whole_stays, long_stays, blanks_stay, unfinished_size, whole_within}
+use Rattle.ocm_http_heads.specs.declared.fields.Head.{Head}
+use Rattle.ocm_http_heads.specs.declared.lengths.Length.TheVariants as lengths
+use Rattle.ocm_http_heads.specs.declared.endings.Look.{Look}
+use Rattle.ocm_http_heads.specs.declared.endings.Found.TheVariants as finds
+use Rattle.ocm_http_heads.specs.Endings.{found, moved, further, blanks, lines, of_head}
+use Rattle.ocm_http_heads.proofs.Looks.{found_on, moved-append, whole_stays, long_stays, blanks_stay, unfinished_size, whole_within}
 use Rattle.ocm_http.specs.Places.{past}
 use Rattle.ocm_http.specs.Frames.{Frame, Given, Refused, Ended, IsFrame}
 use Rattle.ocm_http.specs.Stages.{Goes, Makes, Faults, Stands, HeadedBy, Begins, BeginsBody}

@@ -7,8 +7,8 @@ use Rattle.std.proofs.Math.ListN.{length-take}
 use Rattle.httparse.specs.Grammar.{ChunkLine, ReadsChunkLine, print_chunk_line, print_extension, print_end, crlf, HasNoChunkLine, NeverHasChunkLine, MayBecomeChunkLine}
 use Rattle.httparse.proofs.ChunkLemmas.{ReadsChunkLine-append}
 use Rattle.httparse.proofs.OpenLemmas.{digits_cut, chunk_may}
-use Rattle.ocm_heads.specs.ChunkLines.{LineOf}
-use Rattle.ocm_heads.specs.Endings.{of_trailers}
+use Rattle.ocm_http_heads.specs.ChunkLines.{LineOf}
+use Rattle.ocm_http_heads.specs.Endings.{of_trailers}
 use Rattle.ocm_http.specs.Places.{past}
 use Rattle.ocm_http.specs.Messages.{more_of}
 use Rattle.ocm_http.specs.Frames as frames

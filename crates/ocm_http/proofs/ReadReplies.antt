@@ -12,15 +12,15 @@ use Rattle.std.proofs.lemmas.Fmt.{decimal_digit, decimal_step, decimal_is_IsNume
 use Rattle.httparse.specs.Grammar.{crlf, print_response, ResponseHead, IsResponseHead, is_value_byte}
 use Rattle.http.specs.StatusCode.{reason_phrase}
 use Rattle.base64.proofs.Tables.{all_below_at}
-use Rattle.ocm_heads.specs.Endings.{lines}
-use Rattle.ocm_heads.specs.Heads.{is_same, is_final, field_of, SaysReply}
-use Rattle.ocm_heads.specs.Lengths.{values, told, told_by, counted, or_else, without_body, reply_length}
-use Rattle.ocm_heads.specs.declared.fields.Field.{Field}
-use Rattle.ocm_heads.specs.declared.fields.Head.TheVariants.{Reply}
-use Rattle.ocm_heads.specs.declared.lengths.Length.{Length}
-use Rattle.ocm_heads.specs.declared.lengths.Length.TheVariants.{Sized, ToEnd}
-use Rattle.ocm_heads.specs.declared.lengths.LengthFault.{LengthFault}
-use Rattle.ocm_heads.proofs.Heads.{lines-append}
+use Rattle.ocm_http_heads.specs.Endings.{lines}
+use Rattle.ocm_http_heads.specs.Heads.{is_same, is_final, field_of, SaysReply}
+use Rattle.ocm_http_heads.specs.Lengths.{values, told, told_by, counted, or_else, without_body, reply_length}
+use Rattle.ocm_http_heads.specs.declared.fields.Field.{Field}
+use Rattle.ocm_http_heads.specs.declared.fields.Head.TheVariants.{Reply}
+use Rattle.ocm_http_heads.specs.declared.lengths.Length.{Length}
+use Rattle.ocm_http_heads.specs.declared.lengths.Length.TheVariants.{Sized, ToEnd}
+use Rattle.ocm_http_heads.specs.declared.lengths.LengthFault.{LengthFault}
+use Rattle.ocm_http_heads.proofs.Heads.{lines-append}
 use Rattle.ocm_http.specs.Frames.{Given, IsFrame}
 use Rattle.ocm_http.specs.Written.{line_end, with_fields, with_length, with_length_unless_empty, with_close_if, phrase_of, status_line, reply_head, written_reply}
 use Rattle.ocm_http.specs.ReadBack.{lower, IsClear, IsGiven, length_field, closing_field, reply_fields, has_no_body, ReplyIsReadBack, FixedAreWritten}

@@ -10,11 +10,11 @@ use Rattle.std.proofs.lemmas.List.Elements.{All-nil, All-cons, All-append}
 use Rattle.httparse.specs.Grammar.{crlf, print_version, print_request, RequestHead, IsRequestHead, IsToken, is_token, is_token_byte, is_uri_byte}
 use Rattle.ocm_texts.specs.Hex.{AreBytes}
 use Rattle.ocm_types.specs.Hosts.{is_host}
-use Rattle.ocm_heads.specs.Heads.{is_same, is_closing, closes, field_of, SaysRequest}
-use Rattle.ocm_heads.specs.Lengths.{told_by, counted, or_else, request_length}
-use Rattle.ocm_heads.specs.declared.fields.Field.{Field}
-use Rattle.ocm_heads.specs.declared.fields.Head.TheVariants.{Request}
-use Rattle.ocm_heads.specs.declared.lengths.Length.TheVariants.{Sized}
+use Rattle.ocm_http_heads.specs.Heads.{is_same, is_closing, closes, field_of, SaysRequest}
+use Rattle.ocm_http_heads.specs.Lengths.{told_by, counted, or_else, request_length}
+use Rattle.ocm_http_heads.specs.declared.fields.Field.{Field}
+use Rattle.ocm_http_heads.specs.declared.fields.Head.TheVariants.{Request}
+use Rattle.ocm_http_heads.specs.declared.lengths.Length.TheVariants.{Sized}
 use Rattle.ocm_http.specs.Frames.{Given, IsFrame}
 use Rattle.ocm_http.specs.Written.{line_end, with_field, with_fields, with_credentials, with_depth, with_type, with_length, with_close, request_line, request_head, written_request}
 use Rattle.ocm_http.specs.ReadBack.{lower, field, IsClear, credential_fields, depth_fields, type_fields, length_field, closing_field, request_fields, IsAsked, RequestIsReadBack}

@@ -1,16 +1,16 @@
 -- What a stream of requests gives: requests, each of which is whole without the end of input.
 use Rattle.std.proofs.Common.{◌≡◌, ℕ, ◌+◌, List, [], ◌∷◌, length, take, drop, codes, Bool, true, false, cond, leb, ltb, refl, sym, ap, ◌∙◌, subst, Option, Some, None, Result, Ok, Err}
-use Rattle.ocm_heads.specs.Heads.{SaysRequest, request_of}
-use Rattle.ocm_heads.specs.Lengths.{request_length, or_else, told, values}
-use Rattle.ocm_heads.specs.Endings.{found, of_head, of_trailers}
-use Rattle.ocm_heads.specs.declared.endings.Found.{Found}
-use Rattle.ocm_heads.specs.declared.endings.Found.TheVariants as finds
-use Rattle.ocm_heads.specs.declared.fields.Head.{Head}
-use Rattle.ocm_heads.specs.declared.fields.Head.TheVariants as heads
-use Rattle.ocm_heads.specs.declared.lengths.Length.{Length}
-use Rattle.ocm_heads.specs.declared.lengths.Length.TheVariants as lengths
-use Rattle.ocm_heads.specs.declared.lengths.LengthFault.{LengthFault}
-use Rattle.ocm_heads.specs.declared.lengths.LengthFault.TheVariants as faults
+use Rattle.ocm_http_heads.specs.Heads.{SaysRequest, request_of}
+use Rattle.ocm_http_heads.specs.Lengths.{request_length, or_else, told, values}
+use Rattle.ocm_http_heads.specs.Endings.{found, of_head, of_trailers}
+use Rattle.ocm_http_heads.specs.declared.endings.Found.{Found}
+use Rattle.ocm_http_heads.specs.declared.endings.Found.TheVariants as finds
+use Rattle.ocm_http_heads.specs.declared.fields.Head.{Head}
+use Rattle.ocm_http_heads.specs.declared.fields.Head.TheVariants as heads
+use Rattle.ocm_http_heads.specs.declared.lengths.Length.{Length}
+use Rattle.ocm_http_heads.specs.declared.lengths.Length.TheVariants as lengths
+use Rattle.ocm_http_heads.specs.declared.lengths.LengthFault.{LengthFault}
+use Rattle.ocm_http_heads.specs.declared.lengths.LengthFault.TheVariants as faults
 use Rattle.ocm_http.specs.Places.{past}
 use Rattle.ocm_http.specs.Messages.{IsRequest, length_of, more_of}
 use Rattle.ocm_http.specs.Frames as frames

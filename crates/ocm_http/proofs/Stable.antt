@@ -3,14 +3,14 @@ use Rattle.std.proofs.Common.{◌≡◌, ℕ, ◌+◌, ◌<◌, ◌≤◌, inl, 
 use Rattle.std.proofs.lemmas.List.{take-append-le, drop-append-le}
 use Rattle.std.proofs.lemmas.Bool.{leb-true, le-leb, ltb-true, lt-ltb}
 use Rattle.httparse.specs.Grammar.{HasNoChunkLine}
-use Rattle.ocm_heads.specs.Endings.{found, blanks, of_head, of_trailers}
-use Rattle.ocm_heads.specs.declared.endings.Found.{Found}
-use Rattle.ocm_heads.specs.declared.endings.Found.TheVariants as finds
-use Rattle.ocm_heads.specs.declared.fields.Head.{Head}
-use Rattle.ocm_heads.specs.declared.lengths.Length.{Length}
-use Rattle.ocm_heads.specs.declared.lengths.Length.TheVariants as lengths
-use Rattle.ocm_heads.specs.declared.lengths.LengthFault.{LengthFault}
-use Rattle.ocm_heads.proofs.Looks.{whole_stays, long_stays, whole_within}
+use Rattle.ocm_http_heads.specs.Endings.{found, blanks, of_head, of_trailers}
+use Rattle.ocm_http_heads.specs.declared.endings.Found.{Found}
+use Rattle.ocm_http_heads.specs.declared.endings.Found.TheVariants as finds
+use Rattle.ocm_http_heads.specs.declared.fields.Head.{Head}
+use Rattle.ocm_http_heads.specs.declared.lengths.Length.{Length}
+use Rattle.ocm_http_heads.specs.declared.lengths.Length.TheVariants as lengths
+use Rattle.ocm_http_heads.specs.declared.lengths.LengthFault.{LengthFault}
+use Rattle.ocm_http_heads.proofs.Looks.{whole_stays, long_stays, whole_within}
 use Rattle.ocm_http.specs.Places.{past}
 use Rattle.ocm_http.specs.Messages.{more_of, length_of}
 use Rattle.ocm_http.specs.Frames as frames

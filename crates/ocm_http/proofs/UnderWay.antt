@@ -4,7 +4,7 @@ use Rattle.std.specs.Prelude.{IfSome, IfOk}
 use Rattle.std.proofs.lemmas.List.{take-append-drop, length-take-le, drop-take, drop-drop, length-drop}
 use Rattle.ocm_base.specs.Outside.{Takes}
 use Rattle.ocm_base.proofs.Pieces.{Takes-twice}
-use Rattle.ocm_heads.specs.Endings.{of_head}
+use Rattle.ocm_http_heads.specs.Endings.{of_head}
 use Rattle.ocm_http.specs.Places.{past}
 use Rattle.ocm_http.specs.Frames.{Frame, Given, Refused, Over, IsFrame}
 use Rattle.ocm_http.specs.Stages.{Goes, Makes, Faults, Ends, Rest}

@@ -5,15 +5,15 @@ use Rattle.std.proofs.lemmas.Bool.{ne_eqb, le-leb, lt-leb}
 use Rattle.httparse.specs.Grammar.{ReadsChunkLine, chunk_size, print_chunk_line}
 use Rattle.httparse.proofs.GrammarLemmas.{request_unique, response_unique}
 use Rattle.httparse.proofs.ChunkLemmas.{chunk_line_unique}
-use Rattle.ocm_heads.specs.ChunkLines.{LineOf}
-use Rattle.ocm_heads.specs.Heads.{SaysRequest, SaysReply, request_of, reply_of}
-use Rattle.ocm_heads.specs.Endings.{found, of_head, of_trailers}
-use Rattle.ocm_heads.specs.declared.endings.Found.{Found}
-use Rattle.ocm_heads.specs.declared.endings.Found.TheVariants as finds
-use Rattle.ocm_heads.specs.declared.fields.Head.{Head}
-use Rattle.ocm_heads.specs.declared.lengths.Length.{Length}
-use Rattle.ocm_heads.specs.declared.lengths.Length.TheVariants as lengths
-use Rattle.ocm_heads.specs.declared.lengths.LengthFault.{LengthFault}
+use Rattle.ocm_http_heads.specs.ChunkLines.{LineOf}
+use Rattle.ocm_http_heads.specs.Heads.{SaysRequest, SaysReply, request_of, reply_of}
+use Rattle.ocm_http_heads.specs.Endings.{found, of_head, of_trailers}
+use Rattle.ocm_http_heads.specs.declared.endings.Found.{Found}
+use Rattle.ocm_http_heads.specs.declared.endings.Found.TheVariants as finds
+use Rattle.ocm_http_heads.specs.declared.fields.Head.{Head}
+use Rattle.ocm_http_heads.specs.declared.lengths.Length.{Length}
+use Rattle.ocm_http_heads.specs.declared.lengths.Length.TheVariants as lengths
+use Rattle.ocm_http_heads.specs.declared.lengths.LengthFault.{LengthFault}
 use Rattle.ocm_http.specs.Places.{past}
 use Rattle.ocm_http.specs.Messages.{more_of, length_of, SaysHead}
 use Rattle.ocm_http.specs.Frames as frames

@@ -11,14 +11,14 @@ use Rattle.std.proofs.lemmas.List.Elements.{All-head, All-tail, All-map, All-wea
 use Rattle.std.proofs.lemmas.Fmt.{digits_value-decimal, decimal_nonempty, length-decimal-le}
 use Rattle.httparse.specs.Grammar.{Field as Line, IsField, IsToken, AllPass, crlf, print_field, is_token_byte, is_value_byte, is_uri_byte, trim_ows}
 use Rattle.ocm_texts.specs.Decimal.{number_after}
-use Rattle.ocm_heads.specs.Endings.{found, blanks, is_blank, of_head}
-use Rattle.ocm_heads.specs.Heads.{field_of, kept_field}
-use Rattle.ocm_heads.specs.Lengths.{counted}
-use Rattle.ocm_heads.specs.declared.endings.Found.TheVariants as finds
-use Rattle.ocm_heads.specs.declared.fields.Field.{Field}
-use Rattle.ocm_heads.specs.declared.fields.Head.{Head}
-use Rattle.ocm_heads.specs.declared.lengths.Length.TheVariants.{Sized}
-use Rattle.ocm_heads.proofs.Looks.{whole_stays}
+use Rattle.ocm_http_heads.specs.Endings.{found, blanks, is_blank, of_head}
+use Rattle.ocm_http_heads.specs.Heads.{field_of, kept_field}
+use Rattle.ocm_http_heads.specs.Lengths.{counted}
+use Rattle.ocm_http_heads.specs.declared.endings.Found.TheVariants as finds
+use Rattle.ocm_http_heads.specs.declared.fields.Field.{Field}
+use Rattle.ocm_http_heads.specs.declared.fields.Head.{Head}
+use Rattle.ocm_http_heads.specs.declared.lengths.Length.TheVariants.{Sized}
+use Rattle.ocm_http_heads.proofs.Looks.{whole_stays}
 use Rattle.ocm_http.specs.Frames.{Given, Ended, IsFrame, sized}
 use Rattle.ocm_http.specs.Messages.{SaysHead, length_of}
 use Rattle.ocm_http.specs.Written.{line_end, with_field, with_fields}

@@ -1,15 +1,15 @@
 -- The frames of a stream: what its bytes are as messages (RFC 9112 sections 2.2, 6 and 7), within the limits.
 use Rattle.std.specs.Prelude.{◌≡◌, ℕ, ◌+◌, ◌<◌, ◌≤◌, ◌⊎◌, Bool, true, false, ◌&&◌, ◌==◌, nat_eq, nat_le, nat_lt, List, [], ◌∷◌, length, take, drop, if◌then◌else◌, Option, Some, None, Result, Ok, Err}
 use Rattle.httparse.specs.Grammar.{HasNoChunkLine, NeverHasChunkLine, MayBecomeChunkLine}
-use Rattle.ocm_heads.specs.ChunkLines.{LineOf}
-use Rattle.ocm_heads.specs.Endings.{found, blanks, of_head, of_trailers}
-use Rattle.ocm_heads.specs.declared.endings.Look.{Look}
-use Rattle.ocm_heads.specs.declared.endings.Found.{Found}
-use Rattle.ocm_heads.specs.declared.endings.Found.TheVariants.{Whole, TooLong, Unfinished}
-use Rattle.ocm_heads.specs.declared.fields.Head.{Head}
-use Rattle.ocm_heads.specs.declared.lengths.Length.{Length}
-use Rattle.ocm_heads.specs.declared.lengths.Length.TheVariants.{Sized, Chunked, ToEnd}
-use Rattle.ocm_heads.specs.declared.lengths.LengthFault.{LengthFault}
+use Rattle.ocm_http_heads.specs.ChunkLines.{LineOf}
+use Rattle.ocm_http_heads.specs.Endings.{found, blanks, of_head, of_trailers}
+use Rattle.ocm_http_heads.specs.declared.endings.Look.{Look}
+use Rattle.ocm_http_heads.specs.declared.endings.Found.{Found}
+use Rattle.ocm_http_heads.specs.declared.endings.Found.TheVariants.{Whole, TooLong, Unfinished}
+use Rattle.ocm_http_heads.specs.declared.fields.Head.{Head}
+use Rattle.ocm_http_heads.specs.declared.lengths.Length.{Length}
+use Rattle.ocm_http_heads.specs.declared.lengths.Length.TheVariants.{Sized, Chunked, ToEnd}
+use Rattle.ocm_http_heads.specs.declared.lengths.LengthFault.{LengthFault}
 use Rattle.ocm_http.specs.Places.{past}
 use Rattle.ocm_http.specs.Messages.{SaysHead, length_of, length_fault, more_of}
 use Rattle.ocm_http.specs.declared.messages.Kind.{Kind}

@@ -1,12 +1,12 @@
 -- What a message's head makes of its body, and the faults of framing.
 use Rattle.std.specs.Prelude.{ℕ, List, ◌++◌, Option, Result}
-use Rattle.ocm_heads.specs.Heads.{SaysRequest, SaysReply}
-use Rattle.ocm_heads.specs.Lengths.{request_length, reply_length}
-use Rattle.ocm_heads.specs.declared.fields.Head.{Head}
-use Rattle.ocm_heads.specs.declared.fields.Head.TheVariants.{Request, Reply}
-use Rattle.ocm_heads.specs.declared.lengths.Length.{Length}
-use Rattle.ocm_heads.specs.declared.lengths.LengthFault.{LengthFault}
-use Rattle.ocm_heads.specs.declared.lengths.LengthFault.TheVariants as lengths
+use Rattle.ocm_http_heads.specs.Heads.{SaysRequest, SaysReply}
+use Rattle.ocm_http_heads.specs.Lengths.{request_length, reply_length}
+use Rattle.ocm_http_heads.specs.declared.fields.Head.{Head}
+use Rattle.ocm_http_heads.specs.declared.fields.Head.TheVariants.{Request, Reply}
+use Rattle.ocm_http_heads.specs.declared.lengths.Length.{Length}
+use Rattle.ocm_http_heads.specs.declared.lengths.LengthFault.{LengthFault}
+use Rattle.ocm_http_heads.specs.declared.lengths.LengthFault.TheVariants as lengths
 use Rattle.ocm_http.specs.declared.messages.Kind.{Kind}
 use Rattle.ocm_http.specs.declared.messages.Kind.TheVariants.{Requests, Replies}
 use Rattle.ocm_http.specs.declared.messages.Message.{Message}

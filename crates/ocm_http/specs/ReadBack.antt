@@ -6,10 +6,10 @@ use Rattle.ocm_limits.specs.Limits.{most_head_bytes, most_head_lines}
 use Rattle.httparse.specs.Grammar.{IsToken, AllPass, is_uri_byte, is_value_byte, trim_ows}
 use Rattle.ocm_texts.specs.Hex.{AreBytes}
 use Rattle.ocm_types.specs.Hosts.{is_host}
-use Rattle.ocm_heads.specs.Endings.{lines}
-use Rattle.ocm_heads.specs.Heads.{kept_field, is_same}
-use Rattle.ocm_heads.specs.declared.fields.Field.{Field}
-use Rattle.ocm_heads.specs.declared.fields.Head.TheVariants.{Request, Reply}
+use Rattle.ocm_http_heads.specs.Endings.{lines}
+use Rattle.ocm_http_heads.specs.Heads.{kept_field, is_same}
+use Rattle.ocm_http_heads.specs.declared.fields.Field.{Field}
+use Rattle.ocm_http_heads.specs.declared.fields.Head.TheVariants.{Request, Reply}
 use Rattle.ocm_http.specs.Frames.{Given, Awaited, Over, IsFrame, Frames}
 use Rattle.ocm_http.specs.Written.{basic, request_head, written_request, reply_head, written_reply, fixed}
 use Rattle.ocm_http.specs.declared.messages.Kind.{Kind}

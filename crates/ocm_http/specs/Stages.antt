@@ -1,12 +1,12 @@
 -- A message that is being read: what the bytes that are still to come mean.
 use Rattle.std.specs.Prelude.{◌≡◌, ℕ, ◌+◌, ◌-◌, ◌*◌, ◌<◌, ◌≤◌, Bool, true, List, [], ◌∷◌, ◌++◌, length, take, drop, if◌then◌else◌, Option, Some, None, Ok, ⊤}
 use Rattle.ocm_limits.specs.Limits.{most_head_bytes}
-use Rattle.ocm_heads.specs.Endings.{found, moved, of_head, blanks}
-use Rattle.ocm_heads.specs.declared.endings.Found.TheVariants as finds
+use Rattle.ocm_http_heads.specs.Endings.{found, moved, of_head, blanks}
+use Rattle.ocm_http_heads.specs.declared.endings.Found.TheVariants as finds
 use Rattle.ocm_http.specs.Places.{past}
-use Rattle.ocm_heads.specs.declared.fields.Head as Text
-use Rattle.ocm_heads.specs.declared.lengths.Length.{Length}
-use Rattle.ocm_heads.specs.declared.lengths.Length.TheVariants as lengths
+use Rattle.ocm_http_heads.specs.declared.fields.Head as Text
+use Rattle.ocm_http_heads.specs.declared.lengths.Length.{Length}
+use Rattle.ocm_http_heads.specs.declared.lengths.Length.TheVariants as lengths
 use Rattle.ocm_http.specs.Messages.{more_of, SaysHead}
 use Rattle.ocm_http.specs.Frames.{Frame, Given, Refused, Over, Headed, Bodied, IsLine, Break as Broke, Broken, Wrong, Unbroken, break_of, unfinished, sized, to_end, trailers, Chunks, IsFrame, IsOpenLine}
 use Rattle.ocm_http.specs.declared.messages.Message.{Message}

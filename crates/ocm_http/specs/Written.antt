@@ -4,8 +4,8 @@ use Rattle.std.specs.Fmt.{decimal}
 use Rattle.base64.specs.GeneralPurpose.{encode_of}
 use Rattle.base64.specs.Engines.{standard}
 use Rattle.http.specs.StatusCode.{reason_phrase}
-use Rattle.ocm_heads.specs.Heads.{is_same}
-use Rattle.ocm_heads.specs.declared.fields.Field.{Field}
+use Rattle.ocm_http_heads.specs.Heads.{is_same}
+use Rattle.ocm_http_heads.specs.declared.fields.Field.{Field}
 use Rattle.ocm_http.specs.declared.writing.Fixed.{Fixed}
 use Rattle.ocm_http.specs.declared.writing.Fixed.TheVariants.{Bad, NoMemory}
 

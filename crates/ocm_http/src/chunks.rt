@@ -6,7 +6,7 @@ ghost use Rattle.ocm_http.specs.Stages.{Stands, Feeds, Faults, GoesFrom};
 use crate::messages::{FrameFault, Message};
 use crate::stages::{Fed, Rules, Stage, past, with_more};
 use ocm_base::Bytes;
-use ocm_heads::{ChunkLine, Found, Look, read_chunk_line};
+use ocm_http_heads::{ChunkLine, Found, Look, read_chunk_line};
 use std::alloc::Global;
 
 /// How many bytes a chunk line has at most, its CR LF among them.

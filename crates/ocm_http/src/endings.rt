@@ -4,7 +4,7 @@ ghost use Rattle.ocm_http.specs.Stages.{Stands, Ends, Rest};
 
 use crate::messages::{FrameFault, Message};
 use crate::stages::{Rules, Stage};
-use ocm_heads::blanks;
+use ocm_http_heads::blanks;
 
 fn is_bare(bytes: &[u8]) -> bool
     ensures { result ≡ frames.is_bare bytes.now }

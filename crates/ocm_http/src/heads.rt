@@ -1,6 +1,6 @@
 ghost use Rattle.std.specs.Prelude.{◌≡◌, ◌<◌, ◌≤◌, length, if◌then◌else◌, IfOk, IfErr};
 ghost use Rattle.ocm_limits.specs.Limits.{most_head_lines};
-ghost use Rattle.ocm_heads.specs.Endings as ends;
+ghost use Rattle.ocm_http_heads.specs.Endings as ends;
 ghost use Rattle.ocm_http.specs.Places as places;
 ghost use Rattle.ocm_http.specs.Messages as messages;
 ghost use Rattle.ocm_http.specs.Frames.{Bodied, Refused};
@@ -9,7 +9,7 @@ ghost use Rattle.ocm_http.specs.Stages.{Stands, Feeds, Faults, Begins, BeginsBod
 use crate::messages::{FrameFault, Kind, Message};
 use crate::stages::{Begun, Fed, Rules, Stage, past};
 use ocm_base::{Bytes, NoMemory};
-use ocm_heads::{
+use ocm_http_heads::{
     Found, Head, Length, LengthFault, Look, blanks, length_of_reply, length_of_request, read_reply,
     read_request,
 };

@@ -19,6 +19,6 @@ pub use laws::{
     written_reply_is_read_back, written_request_is_read_back,
 };
 pub use messages::{FrameFault, Kind, Message};
-pub use ocm_heads::{Field, Head};
+pub use ocm_http_heads::{Field, Head};
 pub use reader::Reader;
 pub use writing::{Fixed, write_fixed, write_reply, write_request};

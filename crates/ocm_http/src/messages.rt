@@ -1,7 +1,7 @@
 ghost use Rattle.std.specs.Prelude.{◌≡◌, IfOk};
 
 use ocm_base::{Bytes, NoMemory, and};
-use ocm_heads::Head;
+use ocm_http_heads::Head;
 
 /// Which messages a stream has.
 #[derive(Clone, Copy)]

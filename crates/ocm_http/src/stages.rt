@@ -1,5 +1,5 @@
 ghost use Rattle.std.specs.Prelude.{◌≡◌, ◌<◌, [], length, IfOk, IfErr};
-ghost use Rattle.ocm_heads.specs.Endings.{of_head};
+ghost use Rattle.ocm_http_heads.specs.Endings.{of_head};
 ghost use Rattle.ocm_http.specs.Places as places;
 ghost use Rattle.ocm_http.specs.Messages.{more_of};
 ghost use Rattle.ocm_http.specs.Stages.{Stands, Feeds, Faults};
@@ -9,7 +9,7 @@ use crate::chunks::{feed_break, feed_data, feed_line, feed_trailers};
 use crate::heads::feed_head;
 use crate::messages::{FrameFault, Kind, Message};
 use ocm_base::{Bytes, NoMemory};
-use ocm_heads::Look;
+use ocm_http_heads::Look;
 use std::alloc::Global;
 
 /// How a message is read: its kind, how many bytes its body has at most, and the place of its first byte.

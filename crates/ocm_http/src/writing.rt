@@ -9,7 +9,7 @@ ghost use Rattle.ocm_http.specs.ReadBack as back;
 use base64::engine::general_purpose::STANDARD;
 use http::StatusCode;
 use ocm_base::{Bytes, Failed, Joined, List, NoMemory, Sink, write_all};
-use ocm_heads::Field;
+use ocm_http_heads::Field;
 use ocm_types::{Host, Secret};
 use std::alloc::Global;
 

@@ -2,7 +2,7 @@
 use Rattle.std.proofs.Common.{◌≡◌, ◌≤◌, ◌<◌, inl, ℕ, ◌+◌, false, List, [], ◌∷◌, ◌++◌, length, Result, Ok, Err, is_err, OnOk, sym, ◌∙◌, ap, subst, arith}
 use Rattle.ocm_disk.specs.Disk.{LeavesOnly, Only, Torn}
 use Rattle.ocm_disk.specs.declared.disk.Disk.{Ghosts}
-use Rattle.ocm_image.specs.Layout.{IsImage, blocks_size, live_start}
+use Rattle.ocm_journal_image.specs.Layout.{IsImage, blocks_size, live_start}
 use Rattle.ocm_journal.specs.declared.journal.Journal.{Journal}
 use Rattle.ocm_journal.specs.AfterFaults.{AfterFault}
 use Rattle.ocm_journal.specs.Steps.{Switched, InSwitch, SwitchCutShort}

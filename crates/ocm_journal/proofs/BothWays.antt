@@ -2,17 +2,17 @@
 use Rattle.std.proofs.Common.{◌≡◌, ◌⊎◌, inl, inr, ℕ, ◌+◌, Bool, true, false, nat_eq, if◌then◌else◌, List, [], length, Option, Some, None, IsSome, Result, Ok, Err, refl, sym, ◌∙◌, ap, subst}
 use Rattle.std.specs.Cmp.Lexicographic.{pointwise, bytes_decides}
 use Rattle.ocm_texts.specs.Hex.{AreBytes}
-use Rattle.ocm_image.specs.declared.blanks.Blank.{Blank}
-use Rattle.ocm_image.specs.declared.readings.RawRecord.{RawRecord}
-use Rattle.ocm_image.specs.declared.readings.Area.{Area}
-use Rattle.ocm_image.specs.declared.readings.Header.{Header}
-use Rattle.ocm_image.specs.declared.readings.Image.{Image}
-use Rattle.ocm_image.specs.Blank.{blank_of, IsBlank}
-use Rattle.ocm_image.specs.Layout.{IsImage, contents, live_start, placed}
-use Rattle.ocm_image.specs.Reading.{header_of, area_of, image_below, with_header, start_of, live_bytes}
-use Rattle.ocm_image.proofs.ImageRead.{image_read}
-use Rattle.ocm_image.proofs.OneImage.{blank_is_none}
-use Rattle.ocm_image.proofs.ReadBack.{Stands, image_is, image_stands}
+use Rattle.ocm_journal_image.specs.declared.blanks.Blank.{Blank}
+use Rattle.ocm_journal_image.specs.declared.readings.RawRecord.{RawRecord}
+use Rattle.ocm_journal_image.specs.declared.readings.Area.{Area}
+use Rattle.ocm_journal_image.specs.declared.readings.Header.{Header}
+use Rattle.ocm_journal_image.specs.declared.readings.Image.{Image}
+use Rattle.ocm_journal_image.specs.Blank.{blank_of, IsBlank}
+use Rattle.ocm_journal_image.specs.Layout.{IsImage, contents, live_start, placed}
+use Rattle.ocm_journal_image.specs.Reading.{header_of, area_of, image_below, with_header, start_of, live_bytes}
+use Rattle.ocm_journal_image.proofs.ImageRead.{image_read}
+use Rattle.ocm_journal_image.proofs.OneImage.{blank_is_none}
+use Rattle.ocm_journal_image.proofs.ReadBack.{Stands, image_is, image_stands}
 use Rattle.ocm_journal.specs.declared.faults.OpenFault.{OpenFault}
 use Rattle.ocm_journal.specs.declared.faults.OpenFault.TheVariants.{OtherLabel}
 use Rattle.ocm_journal.specs.Openings.{records_in, records_below, unless_blank, opening}

@@ -2,7 +2,7 @@
 use Rattle.std.proofs.Common.{◌≡◌, ◌≤◌, ◌<◌, ℕ, ◌+◌, ◌-◌, List, [], ◌∷◌, ◌++◌, length, take, drop, get_or, refl, sym, ◌∙◌, ap, arith, append_assoc, length-append, take-append-drop}
 use Rattle.std.proofs.lemmas.List.{take_at, drop_at, take-take, drop-drop, drop-take, drop_more, length-take-le, length-drop}
 use Rattle.ocm_disk.specs.Disk.{Torn, Holds}
-use Rattle.ocm_image.specs.Layout.{HoldsAt}
+use Rattle.ocm_journal_image.specs.Layout.{HoldsAt}
 
 -- the rest of the bytes from a place on stands behind what is held there
 pub text_and_rest : (b : List ℕ) (q : ℕ) (t : List ℕ) → HoldsAt b q t → drop q b ≡ t ++ drop (length t) (drop q b)

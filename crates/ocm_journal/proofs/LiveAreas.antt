@@ -3,7 +3,7 @@ use Rattle.std.proofs.Common.{◌≡◌, ◌≤◌, ◌==◌, inl, inr, ℕ, ◌
 use Rattle.std.proofs.lemmas.Bool.{cases_eq}
 use Rattle.std.proofs.lemmas.Bool.Decides.{nat_tests}
 use Rattle.ocm_disk.specs.declared.disk.Disk.{Ghosts}
-use Rattle.ocm_image.specs.Layout.{IsImage, HoldsAt, named, live_start}
+use Rattle.ocm_journal_image.specs.Layout.{IsImage, HoldsAt, named, live_start}
 use Rattle.ocm_journal.specs.declared.journal.Journal.{Journal}
 use Rattle.ocm_journal.specs.Journals.{IsImageWith, IsOther, StandsFor, first_is_live, selects_first}
 use Rattle.ocm_journal.proofs.Appended.{length-named}

@@ -7,11 +7,11 @@ use Rattle.std.proofs.lemmas.Bool.Decides.{nat_tests}
 use Rattle.std.specs.Cmp.Lexicographic.{pointwise, bytes_decides}
 use Rattle.std.specs.Int.{w64, to_be_bytes}
 use Rattle.ocm_disk.specs.Disk.{Torn, Holds}
-use Rattle.ocm_image.specs.declared.blanks.Blank.{Blank}
-use Rattle.ocm_image.specs.declared.blanks.Blank.TheVariants.{Empty, Begun, Written}
-use Rattle.ocm_image.specs.Blank.{blank_of, IsBlank, made_form}
-use Rattle.ocm_image.specs.Layout.{IsImage, IsLabel, IsAreaSize, IsForm, named, fresh, blocks_size, contents, live_start}
-use Rattle.ocm_image.specs.declared.readings.RawRecord.{RawRecord}
+use Rattle.ocm_journal_image.specs.declared.blanks.Blank.{Blank}
+use Rattle.ocm_journal_image.specs.declared.blanks.Blank.TheVariants.{Empty, Begun, Written}
+use Rattle.ocm_journal_image.specs.Blank.{blank_of, IsBlank, made_form}
+use Rattle.ocm_journal_image.specs.Layout.{IsImage, IsLabel, IsAreaSize, IsForm, named, fresh, blocks_size, contents, live_start}
+use Rattle.ocm_journal_image.specs.declared.readings.RawRecord.{RawRecord}
 use Rattle.ocm_journal.specs.Openings.{Opens, BlankSize}
 
 pub length-fresh : (label : List ℕ) (area form : ℕ) → IsLabel label → length (fresh label area form) ≡ 513

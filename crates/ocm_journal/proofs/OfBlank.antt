@@ -1,7 +1,7 @@
 -- What is made of a blank disk.
 use Rattle.std.proofs.Common.{◌≡◌, ℕ, List, Some, None, Result, Ok, Err, IfOk, refl, sym, ◌∙◌, ap}
-use Rattle.ocm_image.specs.declared.blanks.Blank.{Blank}
-use Rattle.ocm_image.specs.Blank.{blank_of, made_form}
+use Rattle.ocm_journal_image.specs.declared.blanks.Blank.{Blank}
+use Rattle.ocm_journal_image.specs.Blank.{blank_of, made_form}
 use Rattle.ocm_journal.specs.Openings.{IsMadeAs}
 
 some_same : (a b : Blank) → Some a ≡ Some b → a ≡ b

@@ -4,14 +4,14 @@ use Rattle.std.proofs.lemmas.List.{take_all, take_min, take-take, drop_all, leng
 use Rattle.std.proofs.lemmas.Bool.Decides.{nat_tests}
 use Rattle.std.specs.Cmp.Lexicographic.{pointwise, bytes_decides}
 use Rattle.ocm_texts.specs.Hex.{AreBytes}
-use Rattle.ocm_image.specs.declared.faults.ImageFault.{ImageFault}
-use Rattle.ocm_image.specs.declared.faults.ImageFault.TheVariants as image_faults
-use Rattle.ocm_image.specs.declared.readings.RawRecord.{RawRecord}
-use Rattle.ocm_image.specs.declared.readings.Area.{Area}
-use Rattle.ocm_image.specs.declared.readings.Header.{Header}
-use Rattle.ocm_image.specs.Layout.{IsImage, named, contents, live_start}
-use Rattle.ocm_image.specs.Reading.{Gives, header_of, area_of, start_of, live_bytes}
-use Rattle.ocm_image.proofs.ReadBack.{HeaderStands, AreaStands, header_stands, area_stands, both_stand, header_of_front, header_long}
+use Rattle.ocm_journal_image.specs.declared.faults.ImageFault.{ImageFault}
+use Rattle.ocm_journal_image.specs.declared.faults.ImageFault.TheVariants as image_faults
+use Rattle.ocm_journal_image.specs.declared.readings.RawRecord.{RawRecord}
+use Rattle.ocm_journal_image.specs.declared.readings.Area.{Area}
+use Rattle.ocm_journal_image.specs.declared.readings.Header.{Header}
+use Rattle.ocm_journal_image.specs.Layout.{IsImage, named, contents, live_start}
+use Rattle.ocm_journal_image.specs.Reading.{Gives, header_of, area_of, start_of, live_bytes}
+use Rattle.ocm_journal_image.proofs.ReadBack.{HeaderStands, AreaStands, header_stands, area_stands, both_stand, header_of_front, header_long}
 use Rattle.ocm_journal.specs.declared.faults.OpenFault.{OpenFault}
 use Rattle.ocm_journal.specs.declared.faults.OpenFault.TheVariants.{NotJournal, OtherLabel, DiskFault, NoMemory}
 use Rattle.ocm_journal.specs.declared.reading.Opened.{Opened}

@@ -1,9 +1,9 @@
 -- Calls that fail only with their disk.
 use Rattle.std.proofs.Common.{◌≡◌, ◌≤◌, ℕ, ◌+◌, true, List, Result, Ok, Err, IsOk, IfErr, OnOk, is_err, subst, arith}
 use Rattle.ocm_disk.specs.declared.disk.Disk.{Ghosts}
-use Rattle.ocm_image.specs.declared.faults.ImageFault.{ImageFault}
-use Rattle.ocm_image.specs.declared.faults.ImageFault.TheVariants as image_faults
-use Rattle.ocm_image.specs.declared.readings.RawRecord.{RawRecord}
+use Rattle.ocm_journal_image.specs.declared.faults.ImageFault.{ImageFault}
+use Rattle.ocm_journal_image.specs.declared.faults.ImageFault.TheVariants as image_faults
+use Rattle.ocm_journal_image.specs.declared.readings.RawRecord.{RawRecord}
 use Rattle.ocm_journal.specs.declared.faults.OpenFault.{OpenFault}
 use Rattle.ocm_journal.specs.declared.faults.OpenFault.TheVariants.{NotJournal, OtherLabel, DiskFault, NoMemory}
 use Rattle.ocm_journal.specs.Openings.{as_open_fault, IsSaid}

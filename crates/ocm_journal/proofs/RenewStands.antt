@@ -5,7 +5,7 @@ use Rattle.std.proofs.lemmas.Bool.{cases_eq, eqb-true}
 use Rattle.std.proofs.lemmas.Bool.Decides.{nat_tests}
 use Rattle.ocm_disk.specs.Disk.{LeavesOnly, Only, Elapses, Torn}
 use Rattle.ocm_disk.specs.declared.disk.Disk.{Ghosts}
-use Rattle.ocm_image.specs.Layout.{IsImage, AreRecords, area_text, blocks_size, live_start}
+use Rattle.ocm_journal_image.specs.Layout.{IsImage, AreRecords, area_text, blocks_size, live_start}
 use Rattle.ocm_journal.specs.declared.journal.Journal.{Journal}
 use Rattle.ocm_journal.specs.AfterFaults.{AfterFault}
 use Rattle.ocm_journal.specs.Steps.{Switched, InSwitch, SwitchCutShort}

@@ -4,7 +4,7 @@ use Rattle.std.proofs.lemmas.List.{length-replicate}
 use Rattle.std.proofs.lemmas.Bool.{cases_eq}
 use Rattle.std.proofs.lemmas.Bool.Decides.{nat_tests}
 use Rattle.ocm_disk.specs.Disk.{Torn, Holds}
-use Rattle.ocm_image.specs.Layout.{IsImage, HoldsAt, AreRecords, named, blocks_size, area_text, live_start}
+use Rattle.ocm_journal_image.specs.Layout.{IsImage, HoldsAt, AreRecords, named, blocks_size, area_text, live_start}
 use Rattle.ocm_journal.specs.Steps.{Switched, InSwitch}
 use Rattle.ocm_journal.specs.Journals.{renewed_text, IsOldOrNew, IsOther}
 use Rattle.ocm_journal.proofs.Holding.{holds_both, holds_first, holds_second, holds_byte, stays_before, stays_behind, written_holds, whole_is_torn}

@@ -3,7 +3,7 @@ use Rattle.std.specs.Prelude.{replicate, ◌≡◌, ◌<◌, ◌≤◌, ◌⊎�
 use Rattle.std.specs.Int.{w32, to_be_bytes}
 use Rattle.ocm_disk.specs.Disk.{Only}
 use Rattle.ocm_disk.specs.declared.disk.Disk.{Ghosts}
-use Rattle.ocm_image.specs.Layout.{IsImage, blocks_size, area_text, live_start}
+use Rattle.ocm_journal_image.specs.Layout.{IsImage, blocks_size, area_text, live_start}
 use Rattle.ocm_journal.specs.declared.journal.Journal.{Journal}
 
 -- whether the first area is live by the selector byte

@@ -1,9 +1,9 @@
 -- Which area of a journal is live, what is in it, and what one more record makes of it.
 use Rattle.std.specs.Prelude.{◌≡◌, ◌⊎◌, ℕ, ◌+◌, nat_le, List, [], ◌∷◌, ◌++◌, length, Bool, true, false, not, ◌&&◌, Some}
 use Rattle.ocm_disk.specs.declared.disk.Disk.{Ghosts}
-use Rattle.ocm_image.specs.declared.blanks.Blank.{Blank}
-use Rattle.ocm_image.specs.Blank.{blank_of, made_form}
-use Rattle.ocm_image.specs.Layout.{blocks_size}
+use Rattle.ocm_journal_image.specs.declared.blanks.Blank.{Blank}
+use Rattle.ocm_journal_image.specs.Blank.{blank_of, made_form}
+use Rattle.ocm_journal_image.specs.Layout.{blocks_size}
 use Rattle.ocm_journal.specs.declared.journal.Journal.{Journal}
 use Rattle.ocm_journal.specs.Journals.{IsImageWith, StandsFor, first_is_live, form_of}
 

@@ -2,19 +2,19 @@
 use Rattle.std.specs.Prelude.{◌≡◌, ◌⊎◌, ◌≤◌, ◌<◌, ℕ, ◌+◌, ◌-◌, ◌/◌, nat_eq, List, [], length, if◌then◌else◌, Option, Some, None, Result, Ok, Err}
 use Rattle.std.specs.Cmp.Lexicographic.{pointwise}
 use Rattle.ocm_base.specs.Outside.{raised}
-use Rattle.ocm_image.specs.declared.blanks.Blank.{Blank}
-use Rattle.ocm_image.specs.declared.blanks.Blank.TheVariants.{Empty, Begun, Written}
-use Rattle.ocm_image.specs.declared.readings.RawRecord.{RawRecord}
-use Rattle.ocm_image.specs.declared.readings.Area.{Area}
-use Rattle.ocm_image.specs.declared.readings.Header.{Header}
-use Rattle.ocm_image.specs.Blank.{blank_of, made_form, IsBlank}
-use Rattle.ocm_image.specs.Layout.{IsImage, IsAreaSize, live_start, blocks_size, contents}
-use Rattle.ocm_image.specs.Reading.{header_of, area_of, start_of, live_bytes}
+use Rattle.ocm_journal_image.specs.declared.blanks.Blank.{Blank}
+use Rattle.ocm_journal_image.specs.declared.blanks.Blank.TheVariants.{Empty, Begun, Written}
+use Rattle.ocm_journal_image.specs.declared.readings.RawRecord.{RawRecord}
+use Rattle.ocm_journal_image.specs.declared.readings.Area.{Area}
+use Rattle.ocm_journal_image.specs.declared.readings.Header.{Header}
+use Rattle.ocm_journal_image.specs.Blank.{blank_of, made_form, IsBlank}
+use Rattle.ocm_journal_image.specs.Layout.{IsImage, IsAreaSize, live_start, blocks_size, contents}
+use Rattle.ocm_journal_image.specs.Reading.{header_of, area_of, start_of, live_bytes}
 use Rattle.ocm_journal.specs.declared.faults.OpenFault.{OpenFault}
 use Rattle.ocm_journal.specs.declared.faults.OpenFault.TheVariants.{NotJournal, OtherLabel, DiskFault, NoMemory}
 use Rattle.ocm_journal.specs.declared.reading.Opened.{Opened}
-use Rattle.ocm_image.specs.declared.faults.ImageFault.{ImageFault}
-use Rattle.ocm_image.specs.declared.faults.ImageFault.TheVariants as image_faults
+use Rattle.ocm_journal_image.specs.declared.faults.ImageFault.{ImageFault}
+use Rattle.ocm_journal_image.specs.declared.faults.ImageFault.TheVariants as image_faults
 
 -- the disk opens to these records: it is blank and there are none, or it is an image of them
 abbrev pub Opens : List ℕ → ℕ → List (List ℕ) → List ℕ → Type 0

@@ -1,5 +1,5 @@
 use ocm_base::{Bytes, NoMemory};
-use ocm_image::ImageFault;
+use ocm_journal_image::ImageFault;
 
 /// Why a disk was not opened.
 #[derive(Debug, Drop, PartialEq, Eq)]

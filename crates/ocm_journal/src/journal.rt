@@ -1,5 +1,5 @@
 ghost use Rattle.std.specs.Prelude.{◌≡◌, ◌<◌, ◌≤◌, ◌+◌};
-ghost use Rattle.ocm_image.specs.Layout.{IsAreaSize};
+ghost use Rattle.ocm_journal_image.specs.Layout.{IsAreaSize};
 
 use ocm_disk::Disk;
 

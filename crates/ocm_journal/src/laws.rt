@@ -1,9 +1,9 @@
 //! Laws of the definitions, each the contract of a function that computes nothing.
 ghost use Rattle.std.specs.Prelude.{◌≡◌, ◌⊎◌, ◌+◌, ℕ, List, [], None, Ok};
 ghost use Rattle.ocm_texts.specs.Hex.{AreBytes};
-ghost use Rattle.ocm_image.specs.Blank.{blank_of, IsBlank};
-ghost use Rattle.ocm_image.specs.Layout.{IsImage, contents, live_start, placed};
-ghost use Rattle.ocm_image.specs.declared.readings.RawRecord.{RawRecord};
+ghost use Rattle.ocm_journal_image.specs.Blank.{blank_of, IsBlank};
+ghost use Rattle.ocm_journal_image.specs.Layout.{IsImage, contents, live_start, placed};
+ghost use Rattle.ocm_journal_image.specs.declared.readings.RawRecord.{RawRecord};
 ghost use Rattle.ocm_journal.specs.Openings.{opening};
 
 /// The bytes of an image open to its records, each at its place, whatever areas a new journal would have. They are

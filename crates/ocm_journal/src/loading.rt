@@ -1,7 +1,7 @@
 ghost use Rattle.std.specs.Prelude.{◌≡◌, ◌⊎◌, ◌≤◌, ◌^◌, [], List, ℕ, length, OnOk, IfOk, IfErr, Some, None, Ok, min, take, true, false};
 ghost use Rattle.ocm_disk.specs.Disk.{Only, LeavesOnly};
-ghost use Rattle.ocm_image.specs.Blank.{IsBlank, blank_of, made_form};
-ghost use Rattle.ocm_image.specs.Layout.{IsLabel, IsAreaSize, contents};
+ghost use Rattle.ocm_journal_image.specs.Blank.{IsBlank, blank_of, made_form};
+ghost use Rattle.ocm_journal_image.specs.Layout.{IsLabel, IsAreaSize, contents};
 ghost use Rattle.ocm_journal.specs.Journals.{disk_of, area_of, form_of, first_is_live, selects_first, StandsFor};
 ghost use Rattle.ocm_journal.specs.LiveAreas.{BeginsWith, HasLive, LiveArea};
 ghost use Rattle.ocm_journal.specs.Openings.{Opens, BlankSize, IsPlaced, ImageOpens, IsReadFault, IsCounted, IsSaidBy, StaysAsItOpens, IsMadeAs, opening, new_area};
@@ -13,7 +13,7 @@ use crate::making::make;
 use crate::reading::{Opened, open_image, read_part};
 use ocm_base::{List, NoMemory};
 use ocm_disk::Disk;
-use ocm_image::{Blank, RawRecord, fresh_bytes, read_blank};
+use ocm_journal_image::{Blank, RawRecord, fresh_bytes, read_blank};
 use std::alloc::Global;
 
 // The form that a journal made of a blank disk has.

@@ -1,15 +1,15 @@
 //! How a blank disk becomes an empty journal.
 ghost use Rattle.std.specs.Prelude.{◌≡◌, ◌≤◌, ◌∷◌, [], List, ℕ, length, slice_index, OnOk, Some};
 ghost use Rattle.ocm_disk.specs.Disk.{Only, LeavesOnly, HasCause};
-ghost use Rattle.ocm_image.specs.Blank.{blank_of, made_form};
-ghost use Rattle.ocm_image.specs.Layout.{IsLabel, IsAreaSize, IsForm, fresh};
+ghost use Rattle.ocm_journal_image.specs.Blank.{blank_of, made_form};
+ghost use Rattle.ocm_journal_image.specs.Layout.{IsLabel, IsAreaSize, IsForm, fresh};
 ghost use Rattle.ocm_journal.specs.Openings.{Opens, BlankSize};
 ghost use Rattle.ocm_journal.specs.Passing.{PassesWithDisk};
 
 use crate::steps::put;
 use ocm_base::Failed;
 use ocm_disk::Disk;
-use ocm_image::Blank;
+use ocm_journal_image::Blank;
 
 // Writes the first byte, which makes a journal of all that is written behind it.
 pub(crate) fn finish<D: Disk>(disk: &mut D) -> Result<(), Failed>

@@ -2,15 +2,15 @@
 ghost use Rattle.std.specs.Prelude.{◌≡◌, ◌≤◌, ◌<◌, ◌+◌, ◌^◌, min, List, ℕ, length, take, drop, OnOk, IfOk, IfErr, Ok, Err};
 ghost use Rattle.ocm_texts.specs.Hex.{AreBytes};
 ghost use Rattle.ocm_disk.specs.Disk.{LeavesOnly};
-ghost use Rattle.ocm_image.specs.Layout.{IsLabel, IsAreaSize};
-ghost use Rattle.ocm_image.specs.Reading.{header_of, area_of, start_of};
+ghost use Rattle.ocm_journal_image.specs.Layout.{IsLabel, IsAreaSize};
+ghost use Rattle.ocm_journal_image.specs.Reading.{header_of, area_of, start_of};
 ghost use Rattle.ocm_journal.specs.Openings.{records_in, records_below, IsReadFault, IsSaid, IsSaidBy, IsCounted, IsPlaced, ImageOpens};
 ghost use Rattle.ocm_journal.specs.Passing.{FailsWithDisk};
 
 use crate::faults::OpenFault;
 use ocm_base::{Bytes, List};
 use ocm_disk::Disk;
-use ocm_image::{Area, Header, RawRecord, read_area, read_header};
+use ocm_journal_image::{Area, Header, RawRecord, read_area, read_header};
 use std::alloc::Global;
 
 /// What was read of an image, and where it stands.

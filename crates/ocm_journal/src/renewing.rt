@@ -1,6 +1,6 @@
 ghost use Rattle.std.specs.Prelude.{◌≡◌, ◌≢◌, ◌⊎◌, ◌<◌, ◌≤◌, ◌+◌, ◌↔◌, ℕ, List, OnOk, IsOk, IsErr, IfErr, IsErrOf, false, not};
 ghost use Rattle.ocm_disk.specs.Disk.{LeavesOnly};
-ghost use Rattle.ocm_image.specs.Layout.{AreRecords, blocks_size};
+ghost use Rattle.ocm_journal_image.specs.Layout.{AreRecords, blocks_size};
 ghost use Rattle.ocm_journal.specs.AfterFaults.{AfterFault};
 ghost use Rattle.ocm_journal.specs.Renewals.{HasCount, stops};
 ghost use Rattle.ocm_journal.specs.Journals.{IsImageWith, IsOldOrNew, IsStopped, disk_of, first_is_live, StandsFor};
@@ -9,7 +9,7 @@ use crate::journal::Journal;
 use crate::steps::put_behind;
 use ocm_base::{Bytes, List, NoMemory};
 use ocm_disk::Disk;
-use ocm_image::{area_bytes, fits_area};
+use ocm_journal_image::{area_bytes, fits_area};
 
 /// Why the records of a journal were not renewed.
 #[derive(Clone, Copy, Debug, PartialEq, Eq)]

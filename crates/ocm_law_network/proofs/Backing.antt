@@ -10,7 +10,7 @@ use Rattle.ocm_entry.specs.declared.entries.Entry.{Entry}
 use Rattle.ocm_entry.specs.declared.replies.Reply.{Reply}
 use Rattle.ocm_http.specs.Frames.{Frame, Given, Refused, Awaited, Over}
 use Rattle.ocm_http.specs.declared.messages.Message.{Message}
-use Rattle.ocm_pages.specs.declared.shapes.Page.{Page}
+use Rattle.ocm_dav_pages.specs.declared.shapes.Page.{Page}
 use Rattle.ocm_dav.specs.Routes.{wanted_of}
 use Rattle.ocm_dav.specs.Sound.{AsksOutside, is_requested}
 use Rattle.ocm_dav.specs.declared.configs.Config.{Config}
@@ -29,16 +29,16 @@ use Rattle.ocm_pump.specs.declared.exchanges.Exchange.{Exchange}
 use Rattle.ocm_pump.specs.declared.faults.PumpFault.{PumpFault}
 use Rattle.ocm_pump.specs.declared.faults.PumpFault.TheVariants as faults
 use Rattle.ocm_pump.specs.declared.sites.Site.{Site}
-use Rattle.ocm_connections.specs.Sides.{Sides}
-use Rattle.ocm_connections.specs.Talk.{Answers, Replied, Shown, Talk, Unreplied, counted, wanted_at}
-use Rattle.ocm_connections.specs.Talk.Talk.{silent, last, next}
-use Rattle.ocm_connections.specs.declared.endings.Ended.{Ended}
-use Rattle.ocm_connections.specs.declared.endings.Missed.{Missed}
-use Rattle.ocm_connections.specs.declared.endings.Missed.TheVariants as misses
-use Rattle.ocm_rounds.specs.Rounds as rounds
-use Rattle.ocm_rounds.specs.Rounds.{Deliveries, Does, Hold, Round, Tries, hold, messages_of, settlement}
-use Rattle.ocm_rounds.specs.declared.pumped.Pumped.{Pumped}
-use Rattle.ocm_rounds.specs.declared.pumped.RoundEnd.{RoundEnd}
+use Rattle.ocm_server_connections.specs.Sides.{Sides}
+use Rattle.ocm_server_connections.specs.Talk.{Answers, Replied, Shown, Talk, Unreplied, counted, wanted_at}
+use Rattle.ocm_server_connections.specs.Talk.Talk.{silent, last, next}
+use Rattle.ocm_server_connections.specs.declared.endings.Ended.{Ended}
+use Rattle.ocm_server_connections.specs.declared.endings.Missed.{Missed}
+use Rattle.ocm_server_connections.specs.declared.endings.Missed.TheVariants as misses
+use Rattle.ocm_server_rounds.specs.Rounds as rounds
+use Rattle.ocm_server_rounds.specs.Rounds.{Deliveries, Does, Hold, Round, Tries, hold, messages_of, settlement}
+use Rattle.ocm_server_rounds.specs.declared.pumped.Pumped.{Pumped}
+use Rattle.ocm_server_rounds.specs.declared.pumped.RoundEnd.{RoundEnd}
 use Rattle.ocm_server.specs.Visits.{Behind, Desk, Visit, Visits}
 use Rattle.ocm_turn.specs.Calls.{entry}
 use Rattle.ocm_turn.specs.Moves.{Moved}

@@ -14,21 +14,21 @@ use Rattle.ocm_http.specs.declared.messages.Kind.TheVariants.{Replies, Requests}
 use Rattle.ocm_http.specs.declared.messages.FrameFault.{FrameFault}
 use Rattle.ocm_http.specs.declared.messages.FrameFault.TheVariants.{Cut}
 use Rattle.ocm_http.specs.declared.messages.Message.{Message}
-use Rattle.ocm_pages.specs.Pages.{page_of}
-use Rattle.ocm_pages.specs.declared.shapes.Page.{Page}
+use Rattle.ocm_dav_pages.specs.Pages.{page_of}
+use Rattle.ocm_dav_pages.specs.declared.shapes.Page.{Page}
 use Rattle.ocm_dav.specs.declared.configs.Config.{Config}
 use Rattle.ocm_dav.specs.declared.wants.Wanted.TheVariants as wants
 use Rattle.ocm_pump.specs.Delivery.{letter_bytes, post_request}
 use Rattle.ocm_pump.specs.Replies.{IsReply}
 use Rattle.ocm_pump.specs.declared.deliveries.Answered.{Answered}
-use Rattle.ocm_connections.specs.Sides.{IsFront, IsRequests}
-use Rattle.ocm_connections.specs.Talk as talks
-use Rattle.ocm_connections.specs.Talk.{Answers, EndsWith, Replied, Shown, Stops, Talk, Tries, counted, ending_after, is_done, no_memory, ticked, wanted_at}
-use Rattle.ocm_connections.specs.Talk.Talk.{silent, last, next}
-use Rattle.ocm_connections.specs.declared.endings.Ended.{Ended}
-use Rattle.ocm_connections.specs.declared.endings.Ended.TheVariants as endings
-use Rattle.ocm_connections.specs.declared.endings.Missed.{Missed}
-use Rattle.ocm_connections.specs.declared.endings.Missed.TheVariants as misses
+use Rattle.ocm_server_connections.specs.Sides.{IsFront, IsRequests}
+use Rattle.ocm_server_connections.specs.Talk as talks
+use Rattle.ocm_server_connections.specs.Talk.{Answers, EndsWith, Replied, Shown, Stops, Talk, Tries, counted, ending_after, is_done, no_memory, ticked, wanted_at}
+use Rattle.ocm_server_connections.specs.Talk.Talk.{silent, last, next}
+use Rattle.ocm_server_connections.specs.declared.endings.Ended.{Ended}
+use Rattle.ocm_server_connections.specs.declared.endings.Ended.TheVariants as endings
+use Rattle.ocm_server_connections.specs.declared.endings.Missed.{Missed}
+use Rattle.ocm_server_connections.specs.declared.endings.Missed.TheVariants as misses
 use Rattle.ocm_turn.specs.Calls.{entry}
 use Rattle.ocm_rules.specs.History.{is_failure}
 use Rattle.ocm_rules.proofs.Lists.{not_both}

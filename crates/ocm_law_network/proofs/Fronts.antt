@@ -1,14 +1,14 @@
 -- A prefix of a message tells no other message, and no fault but that it is cut.
 use Rattle.std.proofs.Common.{◌≡◌, ℕ, ◌+◌, List, [], ◌∷◌, ◌++◌, length, take, drop, Bool, true, false, cond, leb, ltb, refl, sym, ap, ◌∙◌, subst, Some, None, Result, Ok, Err}
 use Rattle.std.proofs.lemmas.List.{take-append-le}
-use Rattle.ocm_heads.specs.Endings.{blanks, found, of_head, of_trailers}
-use Rattle.ocm_heads.specs.declared.endings.Found.{Found}
-use Rattle.ocm_heads.specs.declared.endings.Found.TheVariants as finds
-use Rattle.ocm_heads.specs.declared.fields.Head.{Head}
-use Rattle.ocm_heads.specs.declared.lengths.Length.{Length}
-use Rattle.ocm_heads.specs.declared.lengths.Length.TheVariants as lengths
-use Rattle.ocm_heads.specs.declared.lengths.LengthFault.{LengthFault}
-use Rattle.ocm_heads.proofs.Looks.{whole_stays, whole_within}
+use Rattle.ocm_http_heads.specs.Endings.{blanks, found, of_head, of_trailers}
+use Rattle.ocm_http_heads.specs.declared.endings.Found.{Found}
+use Rattle.ocm_http_heads.specs.declared.endings.Found.TheVariants as finds
+use Rattle.ocm_http_heads.specs.declared.fields.Head.{Head}
+use Rattle.ocm_http_heads.specs.declared.lengths.Length.{Length}
+use Rattle.ocm_http_heads.specs.declared.lengths.Length.TheVariants as lengths
+use Rattle.ocm_http_heads.specs.declared.lengths.LengthFault.{LengthFault}
+use Rattle.ocm_http_heads.proofs.Looks.{whole_stays, whole_within}
 use Rattle.ocm_http.specs.Frames as frames
 use Rattle.ocm_http.specs.Frames.{Bodied, Chunks, Ended, Frame, Given, Headed, IsFrame, Refused, Awaited, Over, headless, is_bare, sized, to_end, trailers_end, unfinished}
 use Rattle.ocm_http.specs.Messages.{SaysHead, length_of, more_of}

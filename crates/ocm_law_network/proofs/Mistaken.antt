@@ -8,7 +8,7 @@ use mathlib.Core.Logic.{inl, inr}
 use Rattle.ocm_types.specs.declared.letters.Offer.{Offer}
 use Rattle.ocm_types.specs.declared.phases.Phase.TheVariants.{Confirmed}
 use Rattle.ocm_entry.specs.declared.rows.Share.{Share}
-use Rattle.ocm_spelling.specs.Spells.{two_bytes, four_bytes, eight_bytes, text, rights, optional}
+use Rattle.ocm_entry_bytes.specs.Spells.{two_bytes, four_bytes, eight_bytes, text, rights, optional}
 use Rattle.ocm_rules.specs.Cases.{first_secret, host_of_bob, second_secret}
 use Rattle.ocm_rules.specs.Messages.{phase}
 use Rattle.ocm_rules.specs.Numbers.{at_number}
@@ -17,7 +17,7 @@ use Rattle.ocm_rules.specs.Shares.{made, named}
 use Rattle.ocm_rules.proofs.Searches.{some-same}
 use Rattle.ocm_law_sessions.specs.Written.{record_of}
 use Rattle.ocm_entry.specs.declared.replies.Reply.TheVariants.{Noticed}
-use Rattle.ocm_pages.specs.Pages.{page_of}
+use Rattle.ocm_dav_pages.specs.Pages.{page_of}
 use Rattle.ocm_law_posts.specs.Letters.{IsLetter}
 use Rattle.ocm_law_posts.specs.Posts.{post_shape}
 use Rattle.ocm_law_world.specs.Cases.{kept_in}

@@ -9,7 +9,7 @@ use Rattle.ocm_entry.specs.declared.asks.Ask.TheVariants as asks
 use Rattle.ocm_entry.specs.declared.entries.Entry.{Entry}
 use Rattle.ocm_entry.specs.declared.replies.Reply.{Reply}
 use Rattle.ocm_entry.specs.declared.replies.Reply.TheVariants as replies
-use Rattle.ocm_rounds.specs.Rounds.{messages_of}
+use Rattle.ocm_server_rounds.specs.Rounds.{messages_of}
 use Rattle.ocm_turn.specs.Calls.{entry}
 use Rattle.ocm_rules.specs.declared.rows.Message.{Message}
 use Rattle.ocm_rules.specs.History.{answer, is_failure, kept, IsLegal}

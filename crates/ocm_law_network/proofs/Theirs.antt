@@ -11,8 +11,8 @@ use Rattle.ocm_entry.specs.declared.entries.Entry.{Entry}
 use Rattle.ocm_entry.specs.declared.replies.Reply.{Reply}
 use Rattle.ocm_entry.specs.declared.replies.Reply.TheVariants as replies
 use Rattle.ocm_pump.specs.Delivery.{post_request}
-use Rattle.ocm_connections.specs.Sides.{IsFront}
-use Rattle.ocm_connections.specs.Talk.{is_done, ticked}
+use Rattle.ocm_server_connections.specs.Sides.{IsFront}
+use Rattle.ocm_server_connections.specs.Talk.{is_done, ticked}
 use Rattle.ocm_turn.specs.Calls.{entry}
 use Rattle.ocm_rules.specs.History.{is_failure}
 use Rattle.ocm_rules.specs.Lean.{is_tick}

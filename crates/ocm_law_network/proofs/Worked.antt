@@ -10,10 +10,10 @@ use Rattle.ocm_entry.specs.declared.asks.Ask.TheVariants as asks
 use Rattle.ocm_entry.specs.declared.entries.Entry.{Entry}
 use Rattle.ocm_entry.specs.declared.replies.Reply.{Reply}
 use Rattle.ocm_entry.specs.declared.replies.Reply.TheVariants.{Noticed}
-use Rattle.ocm_spelling.specs.Spells.{two_bytes, four_bytes, eight_bytes, text, rights, optional}
+use Rattle.ocm_entry_bytes.specs.Spells.{two_bytes, four_bytes, eight_bytes, text, rights, optional}
 use Rattle.url.specs.Input.{rsplit_once}
 use Rattle.url.specs.Ipv4.{ends_in_a_number, parse_number}
-use Rattle.ocm_pages.specs.Pages.{page_of}
+use Rattle.ocm_dav_pages.specs.Pages.{page_of}
 use Rattle.ocm_pump.specs.declared.deliveries.Answered.{Answered}
 use Rattle.ocm_rules.specs.Cases.{first_secret, given, host_of_bob, no_bytes, offer_to_bob, our_host}
 use Rattle.ocm_rules.specs.History.{answer}
@@ -31,10 +31,10 @@ use Rattle.ocm_law_world.specs.World.{Session, history_of, kept_at}
 use Rattle.ocm_law_world.proofs.Unmade.{unmade}
 use Rattle.ocm_http.specs.ReadBack.{reply_message, request_message}
 use Rattle.ocm_pump.specs.Delivery.{document_request, first_place, post_request}
-use Rattle.ocm_connections.specs.Sides.{IsRequests}
-use Rattle.ocm_connections.specs.Talk.{Answers, EndsWith, Replied}
-use Rattle.ocm_connections.specs.Talk.Talk.{last}
-use Rattle.ocm_connections.specs.declared.endings.Ended.TheVariants.{Closed}
+use Rattle.ocm_server_connections.specs.Sides.{IsRequests}
+use Rattle.ocm_server_connections.specs.Talk.{Answers, EndsWith, Replied}
+use Rattle.ocm_server_connections.specs.Talk.Talk.{last}
+use Rattle.ocm_server_connections.specs.declared.endings.Ended.TheVariants.{Closed}
 use Rattle.ocm_law_posts.specs.Answers.{IsSound, may_answer}
 use Rattle.ocm_law_posts.specs.Documents.{own_site}
 use Rattle.ocm_law_posts.specs.Letters.{IsLetter}

@@ -6,7 +6,7 @@ use Rattle.ocm_types.specs.declared.letters.Letter.{Letter}
 use Rattle.ocm_entry.specs.declared.entries.Entry.{Entry}
 use Rattle.ocm_entry.specs.declared.replies.Reply.{Reply}
 use Rattle.ocm_entry.specs.declared.replies.Reply.TheVariants.{Done}
-use Rattle.ocm_pages.specs.Pages.{page_of}
+use Rattle.ocm_dav_pages.specs.Pages.{page_of}
 use Rattle.ocm_dav.specs.declared.configs.Config.{Config}
 use Rattle.ocm_http.specs.Frames.{Given}
 use Rattle.ocm_http.specs.declared.messages.Message as http
@@ -14,9 +14,9 @@ use Rattle.ocm_pump.specs.Delivery.{document_request, first_place, post_request,
 use Rattle.ocm_pump.specs.Replies.{IsReply}
 use Rattle.ocm_pump.specs.declared.sites.Site.{Site}
 use Rattle.ocm_pump.specs.declared.deliveries.Answered.{Answered}
-use Rattle.ocm_connections.specs.Sides.{IsFront}
-use Rattle.ocm_connections.specs.Talk.{Shown, Talk, is_done, ticked}
-use Rattle.ocm_connections.specs.declared.endings.Ended.{Ended}
+use Rattle.ocm_server_connections.specs.Sides.{IsFront}
+use Rattle.ocm_server_connections.specs.Talk.{Shown, Talk, is_done, ticked}
+use Rattle.ocm_server_connections.specs.declared.endings.Ended.{Ended}
 use Rattle.ocm_turn.specs.Calls.{entry}
 use Rattle.ocm_rules.specs.History.{is_failure}
 use Rattle.ocm_rules.specs.Lean.{is_tick}

@@ -6,7 +6,7 @@ use Rattle.ocm_entry.specs.declared.asks.Ask.TheVariants as asks
 use Rattle.ocm_entry.specs.declared.asks.Cmd.TheVariants as commands
 use Rattle.ocm_entry.specs.declared.entries.Entry.{Entry}
 use Rattle.ocm_entry.specs.declared.replies.Reply.TheVariants.{Done, Key, Noticed, Number, Recipient}
-use Rattle.ocm_pages.specs.Pages.{page_of}
+use Rattle.ocm_dav_pages.specs.Pages.{page_of}
 use Rattle.ocm_rules.specs.Cases.{add_alice, add_bob, alice_key, alice_shares, bob, bob_commands, bob_key, first_bytes, given, host_of_bob, no_bytes, offer_to_bob, our_host, root_path, second_secret}
 use Rattle.ocm_rules.specs.Messages.{acceptance, refusal}
 use Rattle.ocm_rules.specs.Numbers.{at_number}

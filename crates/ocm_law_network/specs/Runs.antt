@@ -1,11 +1,11 @@
 -- What is told of a server that ran, from its disk to its disk.
 use Rattle.std.specs.Prelude.{◌≡◌, ◌⊎◌, ◌<◌, ℕ, List, [], length, slice_index_or, None}
-use Rattle.ocm_connections.specs.Sides.{Sides}
+use Rattle.ocm_server_connections.specs.Sides.{Sides}
 use Rattle.ocm_disk.specs.Disk.{LeavesOnly}
 use Rattle.ocm_disk.specs.declared.disk.Disk.{Ghosts}
 use Rattle.ocm_entry.specs.declared.entries.Entry.{Entry}
 use Rattle.ocm_journal.specs.Openings.{StaysAsItOpens}
-use Rattle.ocm_options.specs.declared.plans.Plan.{Plan}
+use Rattle.ocm_serve_options.specs.declared.plans.Plan.{Plan}
 use Rattle.ocm_serve_store.specs.Runs.{Ran}
 use Rattle.ocm_serve_store.specs.declared.followed.Origin.{Origin}
 use Rattle.ocm_server.specs.Objects.{Shares}

@@ -7,10 +7,10 @@ use Rattle.ocm_entry.specs.declared.asks.Ask.TheVariants as asks
 use Rattle.ocm_entry.specs.declared.entries.Entry.{Entry}
 use Rattle.ocm_entry.specs.declared.replies.Reply.{Reply}
 use Rattle.ocm_pump.specs.declared.exchanges.Exchange.{Exchange}
-use Rattle.ocm_rounds.specs.Rounds.{messages_of}
+use Rattle.ocm_server_rounds.specs.Rounds.{messages_of}
 use Rattle.ocm_server.specs.Objects.{Shares, Shift}
 use Rattle.ocm_server.specs.Visits.{Work}
-use Rattle.ocm_connections.specs.Sides.{Sides}
+use Rattle.ocm_server_connections.specs.Sides.{Sides}
 use Rattle.ocm_dav.specs.declared.configs.Config.{Config}
 use Rattle.ocm_turn.specs.Calls.{entries, entry}
 use Rattle.ocm_turn.specs.Passes.{Gate, Known}

@@ -14,8 +14,8 @@ use Rattle.ocm_pump.specs.declared.deliveries.Answered.{Answered}
 use Rattle.ocm_pump.specs.declared.exchanges.Exchange.{Exchange}
 use Rattle.ocm_pump.specs.declared.sites.Site.{Site}
 use Rattle.ocm_dav.specs.declared.configs.Config.{Config}
-use Rattle.ocm_connections.specs.Sides.{Sides}
-use Rattle.ocm_rounds.specs.Rounds.{messages_of, settlement}
+use Rattle.ocm_server_connections.specs.Sides.{Sides}
+use Rattle.ocm_server_rounds.specs.Rounds.{messages_of, settlement}
 use Rattle.ocm_server.specs.Objects.{Shares, Shift}
 use Rattle.ocm_server.specs.Visits.{Work}
 use Rattle.ocm_turn.specs.Calls.{call, entries, entry}

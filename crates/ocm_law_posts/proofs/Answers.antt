@@ -23,9 +23,9 @@ use Rattle.ocm_entry.specs.declared.refusals.Why.{Why}
 use Rattle.ocm_entry.specs.declared.refusals.Why.TheVariants.{Unauthorized, NotPermitted, RootStays, UnknownShare, ShareClosed, NotFound, NotAllowed, ParentMissing, WrongPhase, UserExists, Collision, BodyRefused, Limit, SenderIdReused, NotOurHost, UnknownUser, OwnHost, SamePlace, Occupied}
 use Rattle.ocm_entry.specs.declared.replies.Reply.{Reply}
 use Rattle.ocm_entry.specs.declared.replies.Reply.TheVariants as replies
-use Rattle.ocm_heads.specs.Endings.{lines}
-use Rattle.ocm_heads.specs.declared.fields.Field.{Field}
-use Rattle.ocm_heads.proofs.Heads.{lines-append}
+use Rattle.ocm_http_heads.specs.Endings.{lines}
+use Rattle.ocm_http_heads.specs.declared.fields.Field.{Field}
+use Rattle.ocm_http_heads.proofs.Heads.{lines-append}
 use Rattle.ocm_http.specs.declared.messages.Kind.TheVariants.{Replies}
 use Rattle.ocm_http.specs.Written.{line_end, with_fields, with_length, with_close, status_line, reply_head, written_reply, fixed}
 use Rattle.ocm_http.specs.ReadBack.{ReadsAs, IsGiven, IsWithinLimits, has_no_body, reply_message}
@@ -35,11 +35,11 @@ use Rattle.ocm_http.proofs.Values.{all_pass, visible_clear, decimal_digits}
 use Rattle.ocm_records.specs.Rows.{record_of}
 use Rattle.ocm_records.specs.Written.{error_data}
 use Rattle.ocm_records.proofs.ReadBack.{fits as few_bytes, record_again}
-use Rattle.ocm_pages.specs.Bodies.{one_text}
-use Rattle.ocm_pages.specs.Errors.{plain, noted, about, refused_field, refusal}
-use Rattle.ocm_pages.specs.Fields.{content_type, challenge, allowed, status_fields}
-use Rattle.ocm_pages.specs.Pages.{json, page, page_of, message_page}
-use Rattle.ocm_pages.specs.declared.shapes.Allow.TheVariants.{Post}
+use Rattle.ocm_dav_pages.specs.Bodies.{one_text}
+use Rattle.ocm_dav_pages.specs.Errors.{plain, noted, about, refused_field, refusal}
+use Rattle.ocm_dav_pages.specs.Fields.{content_type, challenge, allowed, status_fields}
+use Rattle.ocm_dav_pages.specs.Pages.{json, page, page_of, message_page}
+use Rattle.ocm_dav_pages.specs.declared.shapes.Allow.TheVariants.{Post}
 use Rattle.ocm_pump.specs.Delivery.{answer_of, asks_share, is_success, child, with_child}
 use Rattle.ocm_law_world.specs.Deliveries.{delivered_status, delivered_id}
 use Rattle.ocm_law_posts.specs.Answers.{is_offer, Tells, AnswersAreTold}

@@ -18,8 +18,8 @@ use Rattle.ocm_records.specs.Documents.{discovery}
 use Rattle.ocm_records.specs.Rows.{record_of}
 use Rattle.ocm_records.specs.Written.{discovery_data, files_data}
 use Rattle.ocm_records.proofs.DocumentsBack.{discovery_back}
-use Rattle.ocm_pages.specs.Pages.{document_of}
-use Rattle.ocm_pages.proofs.DocumentLaws.{document_is_discovery}
+use Rattle.ocm_dav_pages.specs.Pages.{document_of}
+use Rattle.ocm_dav_pages.proofs.DocumentLaws.{document_is_discovery}
 use Rattle.ocm_pump.specs.Sites.{authority, host_if, host_in, site_at, site_if, site_of}
 use Rattle.ocm_law_posts.specs.Names.{StandsInUrls}
 use Rattle.ocm_law_posts.specs.Documents.{own_site, DocumentsLeadHome}

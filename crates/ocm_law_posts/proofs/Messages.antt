@@ -2,8 +2,8 @@
 use Rattle.std.proofs.Common.{ℕ, true, List, [], ◌∷◌, ◌++◌, length, map, codes, None, sym, subst, append-nil}
 use Rattle.std.proofs.lemmas.List.Elements.{All-nil, All-cons}
 use Rattle.ocm_limits.specs.Limits.{most_body_bytes}
-use Rattle.ocm_heads.specs.declared.fields.Field.{Field}
-use Rattle.ocm_heads.specs.declared.fields.Head.TheVariants.{Request}
+use Rattle.ocm_http_heads.specs.declared.fields.Field.{Field}
+use Rattle.ocm_http_heads.specs.declared.fields.Head.TheVariants.{Request}
 use Rattle.ocm_dav.specs.declared.configs.Config.{Config}
 use Rattle.ocm_law_world.specs.Deliveries.{letter_ask}
 use Rattle.ocm_types.specs.declared.letters.Letter.{Letter}

@@ -5,17 +5,17 @@ use Rattle.std.proofs.lemmas.Fmt.{length-decimal-le}
 use Rattle.std.proofs.lemmas.List.Elements.{All-nil, All-cons}
 use Rattle.std.proofs.lemmas.List.Sums.{AllPass-from_list_all}
 use Rattle.httparse.specs.Grammar.{is_token_byte}
-use Rattle.ocm_heads.specs.Endings.{lines}
-use Rattle.ocm_heads.specs.declared.fields.Field.{Field}
-use Rattle.ocm_heads.proofs.Heads.{lines-append}
+use Rattle.ocm_http_heads.specs.Endings.{lines}
+use Rattle.ocm_http_heads.specs.declared.fields.Field.{Field}
+use Rattle.ocm_http_heads.proofs.Heads.{lines-append}
 use Rattle.ocm_http.specs.Written.{reply_head, written_reply}
 use Rattle.ocm_http.specs.ReadBack.{IsGiven, IsWithinLimits, ReadsAs, reply_message}
 use Rattle.ocm_http.specs.declared.messages.Kind.TheVariants.{Replies}
 use Rattle.ocm_http.proofs.ReadReplies.{reply_is_read_back}
 use Rattle.ocm_http.proofs.Values.{visible_clear}
-use Rattle.ocm_pages.specs.Fields.{content_type}
-use Rattle.ocm_pages.specs.Pages.{page, discovery_page, json}
-use Rattle.ocm_pages.specs.declared.shapes.Allow.TheVariants.{Discovery}
+use Rattle.ocm_dav_pages.specs.Fields.{content_type}
+use Rattle.ocm_dav_pages.specs.Pages.{page, discovery_page, json}
+use Rattle.ocm_dav_pages.specs.declared.shapes.Allow.TheVariants.{Discovery}
 use Rattle.ocm_dav.specs.Shapes.{shape_of}
 use Rattle.ocm_pump.specs.Delivery.{document_request}
 use Rattle.ocm_law_posts.specs.Documents.{DocumentsAreFound}

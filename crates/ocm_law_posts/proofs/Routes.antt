@@ -4,12 +4,12 @@ use Rattle.ocm_types.specs.declared.letters.Letter.TheVariants as letters
 use Rattle.ocm_types.specs.declared.letters.Notice.{Notice}
 use Rattle.ocm_types.specs.declared.letters.Offer.{Offer}
 use Rattle.ocm_entry.specs.declared.asks.Ask.TheVariants as asks
-use Rattle.ocm_heads.specs.declared.fields.Field.{Field}
-use Rattle.ocm_heads.specs.declared.fields.Head.TheVariants.{Request}
+use Rattle.ocm_http_heads.specs.declared.fields.Field.{Field}
+use Rattle.ocm_http_heads.specs.declared.fields.Head.TheVariants.{Request}
 use Rattle.ocm_records.specs.Rows.{record_of}
 use Rattle.ocm_records.specs.Offers.{offer}
 use Rattle.ocm_records.specs.Notices.{notice}
-use Rattle.ocm_pages.specs.Pages.{message_page}
+use Rattle.ocm_dav_pages.specs.Pages.{message_page}
 use Rattle.ocm_dav.specs.Posts.{unless, offer_wanted, notice_wanted, post_refusal}
 use Rattle.ocm_dav.specs.Routes.{wanted_of}
 use Rattle.ocm_dav.specs.declared.configs.Config.{Config}

@@ -9,7 +9,7 @@ use Rattle.ocm_entry.specs.declared.replies.Reply.TheVariants as replies
 use Rattle.ocm_http.specs.ReadBack.{ReadsAs}
 use Rattle.ocm_http.specs.declared.messages.Kind.TheVariants.{Replies}
 use Rattle.ocm_http.specs.declared.messages.Message.{Message}
-use Rattle.ocm_pages.specs.Pages.{page_of}
+use Rattle.ocm_dav_pages.specs.Pages.{page_of}
 use Rattle.ocm_pump.specs.Delivery.{answer_in, asks_share}
 use Rattle.ocm_entry.specs.declared.entries.Entry.{Entry}
 use Rattle.ocm_law_sessions.specs.Sessions.{IsReply as IsSessionReply}

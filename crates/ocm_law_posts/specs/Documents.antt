@@ -4,8 +4,8 @@ use Rattle.serde_json.specs.Written.{compact_text}
 use Rattle.ocm_types.specs.Hosts.{is_host}
 use Rattle.ocm_records.specs.Written.{discovery_data}
 use Rattle.ocm_http.specs.declared.messages.Message.{Message}
-use Rattle.ocm_pages.specs.Pages.{document_of}
-use Rattle.ocm_pages.specs.declared.shapes.Page.{Page}
+use Rattle.ocm_dav_pages.specs.Pages.{document_of}
+use Rattle.ocm_dav_pages.specs.declared.shapes.Page.{Page}
 use Rattle.ocm_dav.specs.Routes.{wanted_of}
 use Rattle.ocm_dav.specs.declared.configs.Config.{Config}
 use Rattle.ocm_dav.specs.declared.wants.Wanted.TheVariants as wanted

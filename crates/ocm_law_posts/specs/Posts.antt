@@ -5,8 +5,8 @@ use Rattle.ocm_types.specs.Hosts.{is_host}
 use Rattle.ocm_types.specs.declared.letters.Letter.{Letter}
 use Rattle.ocm_types.specs.declared.letters.Letter.TheVariants as letters
 use Rattle.ocm_entry.specs.declared.asks.Ask.{Ask}
-use Rattle.ocm_heads.specs.declared.fields.Field.{Field}
-use Rattle.ocm_heads.specs.declared.fields.Head.TheVariants.{Request}
+use Rattle.ocm_http_heads.specs.declared.fields.Field.{Field}
+use Rattle.ocm_http_heads.specs.declared.fields.Head.TheVariants.{Request}
 use Rattle.ocm_http.specs.Frames.{Frames, Over}
 use Rattle.ocm_http.specs.ReadBack.{ReadsAs, request_message}
 use Rattle.ocm_http.specs.declared.messages.Kind.TheVariants.{Requests}
@@ -15,8 +15,8 @@ use Rattle.ocm_records.specs.Rows.{record_of}
 use Rattle.ocm_records.specs.Offers.{offer}
 use Rattle.ocm_records.specs.Notices.{notice}
 use Rattle.ocm_records.specs.declared.values.Discovery.{Discovery}
-use Rattle.ocm_pages.specs.declared.shapes.Allow.TheVariants.{Post}
-use Rattle.ocm_pages.specs.declared.shapes.Shape.{Shape}
+use Rattle.ocm_dav_pages.specs.declared.shapes.Allow.TheVariants.{Post}
+use Rattle.ocm_dav_pages.specs.declared.shapes.Shape.{Shape}
 use Rattle.ocm_dav.specs.Routes.{wanted_of}
 use Rattle.ocm_dav.specs.Shapes.{shape_of}
 use Rattle.ocm_dav.specs.declared.configs.Config.{Config}

@@ -5,7 +5,7 @@ use Rattle.std.specs.declared.net.ipv4_addr.Ipv4Addr.{Ipv4Addr}
 use Rattle.ocm_types.specs.declared.letters.Letter.{Letter}
 use Rattle.ocm_types.specs.declared.letters.Notice.{Notice}
 use Rattle.ocm_types.specs.declared.letters.Notice.TheVariants.{Changed}
-use Rattle.ocm_heads.specs.declared.fields.Head.TheVariants.{Request}
+use Rattle.ocm_http_heads.specs.declared.fields.Head.TheVariants.{Request}
 use Rattle.ocm_http.specs.ReadBack.{lower, request_fields}
 use Rattle.ocm_http.specs.declared.messages.Message.{Message}
 use Rattle.ocm_records.specs.declared.values.Discovery.{Discovery}

@@ -12,7 +12,7 @@ ghost use Rattle.ocm_records.specs.Notices.{notice};
 ghost use Rattle.ocm_records.specs.Written.{notice_data};
 ghost use Rattle.ocm_records.specs.declared.faults.Field.TheVariants.{Serial};
 ghost use Rattle.ocm_records.specs.declared.faults.RecordFault.TheVariants.{Value};
-ghost use Rattle.ocm_pages.specs.Pages.{document_of, page_of};
+ghost use Rattle.ocm_dav_pages.specs.Pages.{document_of, page_of};
 ghost use Rattle.ocm_dav.specs.declared.configs.Config.{Config};
 ghost use Rattle.ocm_pump.specs.Delivery.{post_request};
 ghost use Rattle.ocm_pump.specs.Sites.{site_of};

@@ -12,7 +12,7 @@ use Rattle.ocm_law_world.specs.World.Run.{Stays, Goes_on}
 use Rattle.ocm_law_world.specs.World.Step.{Begins, Asks, Comes, Crashes}
 use Rattle.ocm_law_world.proofs.Steps.{alone-ours, alone-reached, sessions-reached}
 use Rattle.ocm_law_world.proofs.Texts.{text-equal, text-same}
-use Rattle.ocm_world_lines.specs.Servers.{Server, area, asked_at, crashed, new_server, reply_of, server_after, server_at, step_at}
+use Rattle.ocm_script_run.specs.Servers.{Server, area, asked_at, crashed, new_server, reply_of, server_after, server_at, step_at}
 use Rattle.ocm_law_runs.specs.Standing.{Stands, session_of}
 use Rattle.ocm_law_runs.proofs.Finding.{named-at, text-other}
 use Rattle.ocm_law_runs.proofs.Replies.{crash-next, reply-legal}

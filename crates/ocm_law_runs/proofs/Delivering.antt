@@ -20,9 +20,9 @@ use Rattle.ocm_law_world.specs.Deliveries as sent
 use Rattle.ocm_law_world.specs.World.{Answer, Step, World, answer_to, changed, empty, settlement_by, with_call}
 use Rattle.ocm_law_world.specs.World.Run.{Stays, Goes_on}
 use Rattle.ocm_law_world.specs.World.Step.{Delivers}
-use Rattle.ocm_world_lines.specs.Asked.{letter_ask}
-use Rattle.ocm_world_lines.specs.Deliveries.{Run, all_delivered, answered, deliver, delivered, next_wanting, nothing, others_wanting, pump, pumped, settlement, unreachable}
-use Rattle.ocm_world_lines.specs.Servers.{Server, area, asked_at, history, message_of, reply_of, server_after, server_at}
+use Rattle.ocm_script_run.specs.Asked.{letter_ask}
+use Rattle.ocm_script_run.specs.Deliveries.{Run, all_delivered, answered, deliver, delivered, next_wanting, nothing, others_wanting, pump, pumped, settlement, unreachable}
+use Rattle.ocm_script_run.specs.Servers.{Server, area, asked_at, history, message_of, reply_of, server_after, server_at}
 use Rattle.ocm_law_runs.specs.Standing.{Stands, session_of}
 use Rattle.ocm_law_runs.proofs.Asking.{asked-run, comes-run}
 use Rattle.ocm_law_runs.proofs.Replies.{reply-legal}

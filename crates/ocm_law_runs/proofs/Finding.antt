@@ -6,7 +6,7 @@ use Rattle.ocm_rules.specs.Numbers.{same_text}
 use Rattle.ocm_rules.proofs.Lists.{not_both}
 use Rattle.ocm_rules.proofs.Searches.{some-same}
 use Rattle.ocm_law_world.proofs.Texts.{text-equal, text-same}
-use Rattle.ocm_world_lines.specs.Servers.{Server, new_server, server_at, step_at}
+use Rattle.ocm_script_run.specs.Servers.{Server, new_server, server_at, step_at}
 
 -- ---- hosts
 

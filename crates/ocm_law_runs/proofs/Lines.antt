@@ -5,11 +5,11 @@ use Rattle.ocm_entry.specs.declared.asks.Ask.TheVariants.{Tick}
 use Rattle.ocm_law_world.specs.World.{World, empty, is_settlement}
 use Rattle.ocm_script.specs.declared.events.Event.{Event}
 use Rattle.ocm_script.specs.declared.events.Event.TheVariants.{Quiet, Node, User, Local, Dav, Put, Carry, Clock, Offer, Notice, Raw, Deliver, Pump, Fuse, Crash}
-use Rattle.ocm_world_lines.specs.Deliveries as lines
-use Rattle.ocm_world_lines.specs.Deliveries.{next_wanting}
-use Rattle.ocm_world_lines.specs.Servers.{Server, is_kept, server_at, step_at}
-use Rattle.ocm_world_lines.specs.Talks.{config_of}
-use Rattle.ocm_world_lines.specs.Transcript.{IsRun, Talked, Transcript, plain, run}
+use Rattle.ocm_script_run.specs.Deliveries as lines
+use Rattle.ocm_script_run.specs.Deliveries.{next_wanting}
+use Rattle.ocm_script_run.specs.Servers.{Server, is_kept, server_at, step_at}
+use Rattle.ocm_script_run.specs.Talks.{config_of}
+use Rattle.ocm_script_run.specs.Transcript.{IsRun, Talked, Transcript, plain, run}
 use Rattle.ocm_law_runs.specs.Standing.{Stands}
 use Rattle.ocm_law_runs.proofs.Asking.{asked-run, crashes-run, named-run}
 use Rattle.ocm_law_runs.proofs.Delivering.{deliver-run, pump-run}

@@ -9,7 +9,7 @@ use Rattle.ocm_entry.specs.declared.replies.Reply.{Reply}
 use Rattle.ocm_rules.specs.History.{IsLegal, answer}
 use Rattle.ocm_law_sessions.specs.Crashes.{HasLeanWith, IsNext, faulted, if_changing, unheard}
 use Rattle.ocm_law_sessions.specs.Sessions.{IsChangeReply, IsReply, IsToldReply, fault_in, fits, heard, would_change}
-use Rattle.ocm_world_lines.specs.Servers.{Server, area, change_reply, crashed, history, kept_by_crash, reply_of, told_reply}
+use Rattle.ocm_script_run.specs.Servers.{Server, area, change_reply, crashed, history, kept_by_crash, reply_of, told_reply}
 
 change-legal : (fault : Option ℕ) (room short : Bool) (answered : Reply) → IsChangeReply fault room answered (change_reply fault room short answered)
 change-legal (Some count) room short answered = refl

@@ -5,7 +5,7 @@ use Rattle.ocm_rules.specs.Numbers.{same_text}
 use Rattle.ocm_law_world.specs.World.{Answer, Run, World, changed, empty}
 use Rattle.ocm_law_world.specs.World.Run.{Stays, Goes_on}
 use Rattle.ocm_law_world.proofs.Texts.{text-equal, text-same}
-use Rattle.ocm_world_lines.specs.Servers.{Server, server_at, step_at}
+use Rattle.ocm_script_run.specs.Servers.{Server, server_at, step_at}
 use Rattle.ocm_law_runs.specs.Standing.{Stands, session_of}
 use Rattle.ocm_law_runs.proofs.Finding.{Keeps, has-host, stepped-here, stepped-other}
 

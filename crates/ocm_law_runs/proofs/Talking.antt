@@ -12,9 +12,9 @@ use Rattle.ocm_dav.specs.declared.wants.Wanted.{Wanted}
 use Rattle.ocm_dav.specs.declared.wants.Wanted.TheVariants.{Ask, Page}
 use Rattle.ocm_dav.proofs.SoundWants.{sound-wanted_of}
 use Rattle.ocm_law_world.specs.World.{World, is_settlement}
-use Rattle.ocm_world_lines.specs.Servers.{Server, reply_of}
-use Rattle.ocm_world_lines.specs.Talks.{Answers, Says, after_tick, asked_of, is_done, replied}
-use Rattle.ocm_world_lines.specs.Talks.Says.{over, refused, stuck, missed, last, next}
+use Rattle.ocm_script_run.specs.Servers.{Server, reply_of}
+use Rattle.ocm_script_run.specs.Talks.{Answers, Says, after_tick, asked_of, is_done, replied}
+use Rattle.ocm_script_run.specs.Talks.Says.{over, refused, stuck, missed, last, next}
 use Rattle.ocm_law_runs.proofs.Asking.{asks-with}
 use Rattle.ocm_law_runs.proofs.Steps.{Reaches, With, reaches-on, stays}
 

@@ -37,11 +37,11 @@ use Rattle.ocm_transcript.specs.Texts.{line_text, reply_lines}
 use Rattle.ocm_script.specs.Events.{bytes_of}
 use Rattle.ocm_script.specs.declared.events.Event.{Event}
 use Rattle.ocm_script.specs.declared.events.Event.TheVariants.{Carry, Dav, Local, Put}
-use Rattle.ocm_world_lines.specs.Asked.{shows_digits}
-use Rattle.ocm_world_lines.specs.Deliveries as lines
-use Rattle.ocm_world_lines.specs.Deliveries.{next_wanting}
-use Rattle.ocm_world_lines.specs.Servers.{Server, area, asked_at, history, reply_of, server_after, server_at}
-use Rattle.ocm_world_lines.specs.Transcript.{IsRun, Transcript, asked}
+use Rattle.ocm_script_run.specs.Asked.{shows_digits}
+use Rattle.ocm_script_run.specs.Deliveries as lines
+use Rattle.ocm_script_run.specs.Deliveries.{next_wanting}
+use Rattle.ocm_script_run.specs.Servers.{Server, area, asked_at, history, reply_of, server_after, server_at}
+use Rattle.ocm_script_run.specs.Transcript.{IsRun, Transcript, asked}
 use Rattle.ocm_law_runs.specs.Standing.{IsEnded, IsMade, IsRefused, Stands, UsesSecret, kept_at, session_of}
 use Rattle.ocm_law_runs.proofs.Finding.{has-host, stepped-here}
 use Rattle.ocm_law_runs.proofs.Lines.{line-run, transcript-run}

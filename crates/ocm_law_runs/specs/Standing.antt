@@ -10,8 +10,8 @@ use Rattle.ocm_rules.specs.Shares.{is_live, made}
 use Rattle.ocm_transcript.specs.Texts.{line_text}
 use Rattle.ocm_script.specs.declared.events.Event.{Event}
 use Rattle.ocm_script.specs.declared.events.Event.TheVariants.{Dav, Put, Carry}
-use Rattle.ocm_world_lines.specs.Deliveries.{Run}
-use Rattle.ocm_world_lines.specs.Servers.{Server, area, history, server_at}
+use Rattle.ocm_script_run.specs.Deliveries.{Run}
+use Rattle.ocm_script_run.specs.Servers.{Server, area, history, server_at}
 use Rattle.ocm_law_world.specs.Guests.{Makes}
 use Rattle.ocm_law_world.specs.World.{Session, World}
 

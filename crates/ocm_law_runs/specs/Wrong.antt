@@ -8,7 +8,7 @@ use Rattle.ocm_entry.specs.declared.replies.Reply.TheVariants.{Done}
 use Rattle.ocm_rules.specs.Cases.{add_bob, alice_commands, alice_key, bob_commands, first_secret, given, history, host_of_bob, offer_to_bob, our_host, root_path, sharing}
 use Rattle.ocm_script.specs.declared.events.Event.{Event}
 use Rattle.ocm_script.specs.declared.events.Event.TheVariants.{Dav, Local}
-use Rattle.ocm_world_lines.specs.Servers.{Server, crashed, new_server}
+use Rattle.ocm_script_run.specs.Servers.{Server, crashed, new_server}
 
 -- alice's server, at which she shares a file with bob, and the line by which she ends the share
 abbrev pub sharing_server : Server

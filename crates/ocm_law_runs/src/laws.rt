@@ -14,9 +14,9 @@ ghost use Rattle.ocm_law_sessions.specs.Sessions.{IsSession};
 ghost use Rattle.ocm_transcript.specs.Texts.{line_text};
 ghost use Rattle.ocm_script.specs.declared.events.Event.{Event};
 ghost use Rattle.ocm_script.specs.declared.events.Event.TheVariants.{Local};
-ghost use Rattle.ocm_world_lines.specs.Deliveries.{Run};
-ghost use Rattle.ocm_world_lines.specs.Servers.{Server, area, history, server_at};
-ghost use Rattle.ocm_world_lines.specs.Transcript.{IsRun, Transcript};
+ghost use Rattle.ocm_script_run.specs.Deliveries.{Run};
+ghost use Rattle.ocm_script_run.specs.Servers.{Server, area, history, server_at};
+ghost use Rattle.ocm_script_run.specs.Transcript.{IsRun, Transcript};
 ghost use Rattle.ocm_law_runs.specs.Standing.{IsEnded, IsMade, IsRefused, UsesSecret, kept_at};
 
 /// The calls at each server are those of a session after what its disk opened to last, and so its

@@ -2,8 +2,8 @@
 ghost use Rattle.std.specs.Prelude.{◌≡◌, ℕ, List, []};
 ghost use Rattle.ocm_law_world.specs.World.{Run, World, empty};
 ghost use Rattle.ocm_script.specs.declared.events.Event.{Event};
-ghost use Rattle.ocm_world_lines.specs.Servers.{Server};
-ghost use Rattle.ocm_world_lines.specs.Transcript.{Transcript};
+ghost use Rattle.ocm_script_run.specs.Servers.{Server};
+ghost use Rattle.ocm_script_run.specs.Transcript.{Transcript};
 ghost use Rattle.ocm_law_runs.specs.Standing.{Stands};
 
 /// The servers that a script leaves have the sessions of a world that a run reaches, where no host is

@@ -7,8 +7,8 @@ ghost use Rattle.ocm_rules.specs.History.{IsLegal};
 ghost use Rattle.ocm_rules.specs.Messages.{phase};
 ghost use Rattle.ocm_rules.specs.Shares.{is_live};
 ghost use Rattle.ocm_transcript.specs.Texts.{line_text};
-ghost use Rattle.ocm_world_lines.specs.Servers.{Server, new_server, server_at};
-ghost use Rattle.ocm_world_lines.specs.Transcript.{run};
+ghost use Rattle.ocm_script_run.specs.Servers.{Server, new_server, server_at};
+ghost use Rattle.ocm_script_run.specs.Transcript.{run};
 ghost use Rattle.ocm_law_runs.specs.Standing.{IsMade, kept_at};
 ghost use Rattle.ocm_law_runs.specs.Wrong.{ended_after_crash, ended_server, forged_at_bob, get, sharing_server, unshare, without_calls};
 

@@ -4,7 +4,7 @@ use Rattle.std.specs.Prelude.{if◌then◌else◌, unwrap_or}
 use Rattle.std.specs.Option.{option_or}
 use Rattle.ocm_entry.specs.declared.asks.Ask.{Ask}
 use Rattle.ocm_entry.specs.declared.entries.Entry.{Entry}
-use Rattle.ocm_spelling.specs.Spells.{spelling}
+use Rattle.ocm_entry_bytes.specs.Spells.{spelling}
 use Rattle.ocm_rules.specs.Shares.{clock_of, moment}
 use Rattle.ocm_rules.specs.Lean.{lean}
 use Rattle.ocm_rules.specs.History.{kept, answer_kept, changes}

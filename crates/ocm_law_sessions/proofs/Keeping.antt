@@ -20,7 +20,7 @@ use Rattle.ocm_entry.specs.declared.rows.Node.{Node}
 use Rattle.ocm_entry.specs.declared.rows.Standing.{Standing}
 use Rattle.ocm_entry.specs.declared.rows.Standing.TheVariants.{Collection, File}
 use Rattle.ocm_entry.specs.Proper.{is_short, is_body_of, is_proper}
-use Rattle.ocm_spelling.specs.Spells.{command_has_spelling, has_spelling}
+use Rattle.ocm_entry_bytes.specs.Spells.{command_has_spelling, has_spelling}
 use Rattle.ocm_rules.specs.Users.{user_of_key}
 use Rattle.ocm_rules.specs.Holders.{permits}
 use Rattle.ocm_rules.specs.Files.{below, parent_of, with_node, total_size, child_count, limit_of}

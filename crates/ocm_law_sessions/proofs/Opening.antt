@@ -4,13 +4,13 @@ use Rattle.std.specs.Prelude.{if◌then◌else◌, nat_le, nat_lt, option_and_th
 use Rattle.ocm_entry.specs.declared.asks.Ask.{Ask}
 use Rattle.ocm_entry.specs.declared.asks.Ask.TheVariants as asks
 use Rattle.ocm_entry.specs.declared.entries.Entry.{Entry}
-use Rattle.ocm_image.specs.declared.readings.RawRecord.{RawRecord}
-use Rattle.ocm_image.specs.Layout.{contents}
+use Rattle.ocm_journal_image.specs.declared.readings.RawRecord.{RawRecord}
+use Rattle.ocm_journal_image.specs.Layout.{contents}
 use Rattle.ocm_rules.specs.Shares.{moment}
 use Rattle.ocm_rules.specs.History.{IsAnswered}
-use Rattle.ocm_audit.specs.declared.stamps.Stamped.{Stamped}
-use Rattle.ocm_audit.specs.declared.stamps.Stamped.TheVariants as stamps
-use Rattle.ocm_audit.specs.Stamps.{stamped_of}
+use Rattle.ocm_journal_audit.specs.declared.stamps.Stamped.{Stamped}
+use Rattle.ocm_journal_audit.specs.declared.stamps.Stamped.TheVariants as stamps
+use Rattle.ocm_journal_audit.specs.Stamps.{stamped_of}
 use Rattle.ocm_law_sessions.specs.Readings.{entry_after, with_ask, with_moment, with_stamped, goes_on, opened_from, opened, refused_from, refused_at}
 use Rattle.ocm_law_sessions.proofs.Entries.{with_ask-gives}
 

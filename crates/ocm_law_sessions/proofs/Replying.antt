@@ -16,7 +16,7 @@ use Rattle.ocm_rules.proofs.Lists.{not_both}
 use Rattle.ocm_rules.proofs.Kept.{failure-changes}
 use Rattle.ocm_law_lean.proofs.Origins.{leaned-view}
 use Rattle.ocm_law_lean.proofs.Answered.{answer-same, lean-goes_on}
-use Rattle.ocm_image.specs.Layout.{blocks_size}
+use Rattle.ocm_journal_image.specs.Layout.{blocks_size}
 use Rattle.ocm_law_sessions.specs.Written.{records_of}
 use Rattle.ocm_law_sessions.specs.Sessions.{heard, would_change, count_of, fault_in, fits, IsChangeReply, IsToldReply, IsReplyAfter, IsReply, IsSession}
 use Rattle.ocm_law_sessions.proofs.Faultless.{answers-given}

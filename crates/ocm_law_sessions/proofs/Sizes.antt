@@ -4,9 +4,9 @@ use Rattle.std.specs.Prelude.{if◌then◌else◌}
 use Rattle.std.proofs.lemmas.List.{length-append}
 use Rattle.ocm_entry.specs.declared.asks.Ask.{Ask}
 use Rattle.ocm_entry.specs.declared.entries.Entry.{Entry}
-use Rattle.ocm_spelling.specs.Spells.{eight_bytes, spelling, Fits}
-use Rattle.ocm_spelling.proofs.Lengths.{spelled_len}
-use Rattle.ocm_image.specs.Layout.{AreRecords, blocks_size}
+use Rattle.ocm_entry_bytes.specs.Spells.{eight_bytes, spelling, Fits}
+use Rattle.ocm_entry_bytes.proofs.Lengths.{spelled_len}
+use Rattle.ocm_journal_image.specs.Layout.{AreRecords, blocks_size}
 use Rattle.ocm_rules.specs.Shares.{moment}
 use Rattle.ocm_rules.specs.Lean.{is_tick}
 use Rattle.ocm_law_sessions.specs.Written.{record_of, ask_records, records_of, IsSpelled, asks_size, ends_with_tick}

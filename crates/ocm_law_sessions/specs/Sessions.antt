@@ -5,7 +5,7 @@ use Rattle.ocm_entry.specs.declared.asks.Ask.{Ask}
 use Rattle.ocm_entry.specs.declared.replies.Reply.{Reply}
 use Rattle.ocm_entry.specs.declared.replies.Reply.TheVariants.{JournalFull, NoMemory, DiskFault, Stopped}
 use Rattle.ocm_entry.specs.declared.entries.Entry.{Entry}
-use Rattle.ocm_image.specs.Layout.{blocks_size}
+use Rattle.ocm_journal_image.specs.Layout.{blocks_size}
 use Rattle.ocm_rules.specs.Numbers.{latest}
 use Rattle.ocm_rules.specs.History.{kept, changes, answer, IsLegal}
 use Rattle.ocm_rules.specs.Lean.{lean}

@@ -2,7 +2,7 @@
 use Rattle.std.specs.Prelude.{◌≡◌, ℕ, ◌+◌, ◌==◌, List, [], ◌∷◌, ◌++◌, length, Bool, false, ◌&&◌, if◌then◌else◌, ⊤}
 use Rattle.ocm_entry.specs.declared.asks.Ask.{Ask}
 use Rattle.ocm_entry.specs.declared.entries.Entry.{Entry}
-use Rattle.ocm_spelling.specs.Spells.{eight_bytes, spelling, Fits, AreBytes}
+use Rattle.ocm_entry_bytes.specs.Spells.{eight_bytes, spelling, Fits, AreBytes}
 use Rattle.ocm_rules.specs.Lean.{is_tick}
 use Rattle.ocm_rules.specs.Shares.{moment}
 

@@ -3,9 +3,9 @@ ghost use Rattle.std.specs.Prelude.{◌≡◌, ◌+◌, ◌<◌, ◌≤◌, ◌^
 ghost use Rattle.ocm_entry.specs.declared.asks.Ask.{Ask};
 ghost use Rattle.ocm_entry.specs.declared.entries.Entry.{Entry};
 ghost use Rattle.ocm_entry.specs.Proper.{is_proper};
-ghost use Rattle.ocm_spelling.specs.Spells.{AreBytes, has_spelling};
-ghost use Rattle.ocm_image.specs.declared.readings.RawRecord.{RawRecord};
-ghost use Rattle.ocm_image.specs.Layout.{AreRecords, blocks_size, contents};
+ghost use Rattle.ocm_entry_bytes.specs.Spells.{AreBytes, has_spelling};
+ghost use Rattle.ocm_journal_image.specs.declared.readings.RawRecord.{RawRecord};
+ghost use Rattle.ocm_journal_image.specs.Layout.{AreRecords, blocks_size, contents};
 ghost use Rattle.ocm_rules.specs.History.{IsAnswered, IsLegal, answer_kept, changes, kept};
 ghost use Rattle.ocm_rules.specs.Lean.{emptied_among, lean};
 ghost use Rattle.ocm_rules.specs.Shares.{moment};

@@ -6,9 +6,9 @@ use Rattle.ocm_entry.specs.declared.entries.Entry.{Entry}
 use Rattle.ocm_law_sessions.specs.Crashes.{faulted}
 use Rattle.ocm_law_sessions.specs.Sessions.{heard}
 use Rattle.ocm_script.specs.declared.events.Event.{Event}
-use Rattle.ocm_world_lines.specs.Servers.{Server, World, history, kept_by_crash, reply_of, server_at}
-use Rattle.ocm_world_lines.specs.Deliveries.{Run}
-use Rattle.ocm_world_lines.specs.Traces.{IsLogged}
+use Rattle.ocm_script_run.specs.Servers.{Server, World, history, kept_by_crash, reply_of, server_at}
+use Rattle.ocm_script_run.specs.Deliveries.{Run}
+use Rattle.ocm_script_run.specs.Traces.{IsLogged}
 use Rattle.ocm_law_traces.proofs.Keeping.{HasIn, Stays, kept-line}
 
 -- a history, or one that went on after it

@@ -8,22 +8,22 @@ use Rattle.std.proofs.lemmas.Bool.{cond-true, leb-true, le-leb, lt-ltb, ltb-fals
 use Rattle.ocm_entry.specs.declared.asks.Ask.{Ask}
 use Rattle.ocm_entry.specs.declared.asks.Ask.TheVariants as asks
 use Rattle.ocm_entry.specs.declared.entries.Entry.{Entry}
-use Rattle.ocm_spelling.specs.Spells.{AreBytes}
-use Rattle.ocm_spelling.proofs.FieldLaws.{AreBytes-front, AreBytes-rest}
-use Rattle.ocm_image.specs.Blank.{IsBlankForAny}
-use Rattle.ocm_image.specs.Layout.{IsImage, area_text, block, blocks, blocks_size, contents, live_start, placed}
-use Rattle.ocm_image.specs.Reading.{image_of}
-use Rattle.ocm_image.specs.declared.readings.Image.{Image}
-use Rattle.ocm_image.specs.declared.readings.RawRecord.{RawRecord}
-use Rattle.ocm_image.proofs.ImageRead.{image_read}
-use Rattle.ocm_image.proofs.OneImage.{blank_is_none, contents-placed}
+use Rattle.ocm_entry_bytes.specs.Spells.{AreBytes}
+use Rattle.ocm_entry_bytes.proofs.FieldLaws.{AreBytes-front, AreBytes-rest}
+use Rattle.ocm_journal_image.specs.Blank.{IsBlankForAny}
+use Rattle.ocm_journal_image.specs.Layout.{IsImage, area_text, block, blocks, blocks_size, contents, live_start, placed}
+use Rattle.ocm_journal_image.specs.Reading.{image_of}
+use Rattle.ocm_journal_image.specs.declared.readings.Image.{Image}
+use Rattle.ocm_journal_image.specs.declared.readings.RawRecord.{RawRecord}
+use Rattle.ocm_journal_image.proofs.ImageRead.{image_read}
+use Rattle.ocm_journal_image.proofs.OneImage.{blank_is_none, contents-placed}
 use Rattle.ocm_rules.specs.History.{IsAnswered, changes, kept}
 use Rattle.ocm_rules.specs.Lean.{count, is_tick}
 use Rattle.ocm_rules.specs.Shares.{moment}
-use Rattle.ocm_audit.specs.Audits.{is_own_host}
-use Rattle.ocm_audit.specs.Stamps as stamps
-use Rattle.ocm_audit.specs.declared.stamps.Stamped.{Stamped}
-use Rattle.ocm_audit.specs.declared.stamps.Stamped.TheVariants as stamped
+use Rattle.ocm_journal_audit.specs.Audits.{is_own_host}
+use Rattle.ocm_journal_audit.specs.Stamps as stamps
+use Rattle.ocm_journal_audit.specs.declared.stamps.Stamped.{Stamped}
+use Rattle.ocm_journal_audit.specs.declared.stamps.Stamped.TheVariants as stamped
 use Rattle.ocm_law_sessions.specs.Readings.{entry_after, goes_on, opened, opened_from, refused_at, with_ask, with_moment, with_stamped}
 use Rattle.ocm_law_sessions.specs.Written.{AreAllBytes}
 use Rattle.ocm_law_sessions.proofs.Entries.{answered-kept, with_ask-gives}

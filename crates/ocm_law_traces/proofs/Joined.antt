@@ -7,12 +7,12 @@ use Rattle.ocm_disk.specs.Shelf.{bytes_of, disk_of, is_of}
 use Rattle.ocm_disk.specs.declared.shelf.Place.{Place}
 use Rattle.ocm_entry.specs.declared.asks.Ask.{Ask}
 use Rattle.ocm_entry.specs.declared.entries.Entry.{Entry}
-use Rattle.ocm_spelling.specs.Spells.{AreBytes}
+use Rattle.ocm_entry_bytes.specs.Spells.{AreBytes}
 use Rattle.ocm_rules.specs.History.{kept}
 use Rattle.ocm_rules.specs.Lean.{lean}
 use Rattle.ocm_rules.specs.Numbers.{same_text}
 use Rattle.ocm_rules.specs.Shares.{moment}
-use Rattle.ocm_audit.specs.Audits.{is_own_host}
+use Rattle.ocm_journal_audit.specs.Audits.{is_own_host}
 use Rattle.ocm_law_lean.proofs.Thin.{count-same}
 use Rattle.ocm_law_sessions.specs.Crashes.{HasLeanWith, unheard}
 use Rattle.ocm_law_sessions.specs.Sessions.{heard}
@@ -28,9 +28,9 @@ use Rattle.ocm_law_logs.proofs.Bare.{bare-same, moment-same}
 use Rattle.ocm_law_logs.proofs.Truths.{all-later, count-grows, moments-grow, none-false}
 use Rattle.ocm_logcheck.specs.Checks.{Checks, Opened, Opens, told_of, unless_false}
 use Rattle.ocm_logcheck.proofs.Telling.{checks-one}
-use Rattle.ocm_world_lines.specs.Servers.{Server, World, area, history, server_at}
+use Rattle.ocm_script_run.specs.Servers.{Server, World, area, history, server_at}
 use Rattle.ocm_world.specs.Shelves.{AreShelved, IsShelved}
-use Rattle.ocm_world_lines.specs.Traces.{Logged}
+use Rattle.ocm_script_run.specs.Traces.{Logged}
 use Rattle.ocm_law_traces.specs.Texts.{HaveSoundTexts}
 use Rattle.ocm_law_traces.specs.TrueLogs.{IsTrueLog}
 use Rattle.ocm_law_traces.proofs.Growing.{history_at}

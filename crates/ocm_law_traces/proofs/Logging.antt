@@ -33,9 +33,9 @@ use Rattle.ocm_access_log.specs.Written.{HasTexts, IsLoggable, written, written_
 use Rattle.ocm_law_logs.specs.Logged as law
 use Rattle.ocm_law_logs.specs.Logged.{AreTrue, line_after}
 use Rattle.ocm_law_logs.proofs.Truths.{count-grows, moments-grow, logged-true, true-later}
-use Rattle.ocm_world_lines.specs.Servers.{Server, World, area, change_reply, history, is_short as is_spent, reply_of, server_at, told_reply}
-use Rattle.ocm_world_lines.specs.Deliveries.{Run, next_wanting}
-use Rattle.ocm_world_lines.specs.Traces.{IsLogged, Logged, logged, logged_at}
+use Rattle.ocm_script_run.specs.Servers.{Server, World, area, change_reply, history, is_short as is_spent, reply_of, server_at, told_reply}
+use Rattle.ocm_script_run.specs.Deliveries.{Run, next_wanting}
+use Rattle.ocm_script_run.specs.Traces.{IsLogged, Logged, logged, logged_at}
 use Rattle.ocm_law_traces.specs.Texts.{HasSoundTexts, HaveSoundTexts}
 use Rattle.ocm_law_traces.proofs.Growing.{Extends, Grows, history_at, grows_on, grows-line}
 

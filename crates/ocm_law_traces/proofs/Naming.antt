@@ -1,9 +1,9 @@
 -- The server that a run leaves at a host has a host's own text.
 use Rattle.std.proofs.Common.{◌≡◌, ℕ, ◌+◌, List, [], ◌∷◌, true, sym, subst}
-use Rattle.ocm_audit.specs.Audits.{is_own_host}
+use Rattle.ocm_journal_audit.specs.Audits.{is_own_host}
 use Rattle.ocm_script.specs.declared.events.Event.{Event}
-use Rattle.ocm_world_lines.specs.Servers.{Server, World}
-use Rattle.ocm_world_lines.specs.Traces.{Logged}
+use Rattle.ocm_script_run.specs.Servers.{Server, World}
+use Rattle.ocm_script_run.specs.Traces.{Logged}
 use Rattle.ocm_law_traces.specs.Texts.{HasSoundTexts, HaveSoundTexts}
 use Rattle.ocm_law_traces.proofs.Keeping.{Has, Stays, kept-line}
 

@@ -15,7 +15,7 @@ use Rattle.ocm_path.proofs.SegmentsRead.{list_all-segments_of}
 use Rattle.ocm_entry.specs.Proper.{is_short}
 use Rattle.ocm_entry.specs.declared.asks.Method.{Method}
 use Rattle.ocm_entry.specs.declared.asks.Method.TheVariants as methods
-use Rattle.ocm_audit.specs.Audits.{is_own_host}
+use Rattle.ocm_journal_audit.specs.Audits.{is_own_host}
 use Rattle.ocm_script.specs.Bodies.{body_of}
 use Rattle.ocm_script.specs.declared.events.Body.{Body}
 use Rattle.ocm_script.specs.declared.events.Event.{Event}

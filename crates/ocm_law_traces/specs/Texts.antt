@@ -2,7 +2,7 @@
 use Rattle.std.specs.Prelude.{List, [], ◌∷◌, ⊤, IsTrue}
 use Rattle.ocm_entry.specs.Proper.{is_short}
 use Rattle.ocm_entry.specs.declared.asks.Ask.TheVariants as asks
-use Rattle.ocm_audit.specs.Audits.{is_own_host}
+use Rattle.ocm_journal_audit.specs.Audits.{is_own_host}
 use Rattle.ocm_script.specs.declared.events.Event.{Event}
 use Rattle.ocm_script.specs.declared.events.Event.TheVariants.{Dav, Node}
 use Rattle.ocm_access_log.specs.Written.{HasTexts}

@@ -7,10 +7,10 @@ ghost use Rattle.ocm_disk.specs.Shelf.{bytes_of, disk_of};
 ghost use Rattle.ocm_disk.specs.declared.shelf.Place.{Place};
 ghost use Rattle.ocm_script.specs.Script.{script_of};
 ghost use Rattle.ocm_script.specs.declared.events.Event.{Event};
-ghost use Rattle.ocm_spelling.specs.Spells.{AreBytes};
-ghost use Rattle.ocm_world_lines.specs.Servers.{World};
+ghost use Rattle.ocm_entry_bytes.specs.Spells.{AreBytes};
+ghost use Rattle.ocm_script_run.specs.Servers.{World};
 ghost use Rattle.ocm_world.specs.Shelves.{AreShelved};
-ghost use Rattle.ocm_world_lines.specs.Traces.{Logged};
+ghost use Rattle.ocm_script_run.specs.Traces.{Logged};
 ghost use Rattle.ocm_law_traces.specs.TrueLogs.{IsTrueLog};
 
 /// The log of a run of a script is true of the image of that host's disk at the end of the run, whatever disks failed and

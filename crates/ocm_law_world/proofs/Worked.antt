@@ -1,7 +1,7 @@
 -- The worked stories are stories: each event is a step.
 use Rattle.std.proofs.Common.{[], ◌∷◌, ◌++◌, refl}
 use Rattle.std.specs.Fmt.{digits}
-use Rattle.ocm_spelling.specs.Spells.{two_bytes, four_bytes, eight_bytes, text, rights, optional}
+use Rattle.ocm_entry_bytes.specs.Spells.{two_bytes, four_bytes, eight_bytes, text, rights, optional}
 use Rattle.ocm_entry.specs.declared.refusals.Why.TheVariants.{NotPermitted, UnknownShare}
 use Rattle.ocm_entry.specs.declared.replies.Reply.TheVariants.{Done, Noticed}
 use Rattle.ocm_rules.specs.Answers.{refused}

@@ -5,16 +5,16 @@ use Rattle.std.specs.Option.{option_or}
 use Rattle.std.proofs.lemmas.Bool.Decides.{nat_tests}
 use mathlib.Core.Logic.{inl, inr}
 use Rattle.ocm_entry.specs.declared.entries.Entry.{Entry}
-use Rattle.ocm_image.specs.Blank.{IsBlankForAny}
-use Rattle.ocm_image.specs.Layout.{contents}
-use Rattle.ocm_image.specs.Reading.{Gives, image_of}
-use Rattle.ocm_image.specs.declared.faults.ImageFault.{ImageFault}
-use Rattle.ocm_image.specs.declared.faults.ImageFault.TheVariants as image_faults
-use Rattle.ocm_image.specs.declared.readings.Image.{Image}
-use Rattle.ocm_image.specs.declared.readings.RawRecord.{RawRecord}
-use Rattle.ocm_audit.specs.Audits.{Audits, is_own_host}
-use Rattle.ocm_audit.specs.Audits as audits
-use Rattle.ocm_audit.specs.Stamps as stamps
+use Rattle.ocm_journal_image.specs.Blank.{IsBlankForAny}
+use Rattle.ocm_journal_image.specs.Layout.{contents}
+use Rattle.ocm_journal_image.specs.Reading.{Gives, image_of}
+use Rattle.ocm_journal_image.specs.declared.faults.ImageFault.{ImageFault}
+use Rattle.ocm_journal_image.specs.declared.faults.ImageFault.TheVariants as image_faults
+use Rattle.ocm_journal_image.specs.declared.readings.Image.{Image}
+use Rattle.ocm_journal_image.specs.declared.readings.RawRecord.{RawRecord}
+use Rattle.ocm_journal_audit.specs.Audits.{Audits, is_own_host}
+use Rattle.ocm_journal_audit.specs.Audits as audits
+use Rattle.ocm_journal_audit.specs.Stamps as stamps
 use Rattle.ocm_law_sessions.specs.Readings.{opened, refused_at}
 use Rattle.ocm_law_sessions.proofs.Opening.{opened-unrefused}
 use Rattle.ocm_access_log.specs.declared.lines.LogLine.{LogLine}

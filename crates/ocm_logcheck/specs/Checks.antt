@@ -2,14 +2,14 @@
 use Rattle.std.specs.Prelude.{◌≡◌, ℕ, ◌⊎◌, List, [], length, if◌then◌else◌, Option, Some, None, unwrap_or, Result, Ok, Err}
 use Rattle.std.specs.Option.{option_or}
 use Rattle.ocm_entry.specs.declared.entries.Entry.{Entry}
-use Rattle.ocm_image.specs.Blank.{IsBlankForAny}
-use Rattle.ocm_image.specs.Layout.{contents}
-use Rattle.ocm_image.specs.Reading.{image_of}
-use Rattle.ocm_image.specs.declared.faults.ImageFault.{ImageFault}
-use Rattle.ocm_image.specs.declared.faults.ImageFault.TheVariants as image_faults
-use Rattle.ocm_image.specs.declared.readings.Image.{Image}
-use Rattle.ocm_audit.specs.Audits.{is_own_host}
-use Rattle.ocm_audit.specs.Stamps as stamps
+use Rattle.ocm_journal_image.specs.Blank.{IsBlankForAny}
+use Rattle.ocm_journal_image.specs.Layout.{contents}
+use Rattle.ocm_journal_image.specs.Reading.{image_of}
+use Rattle.ocm_journal_image.specs.declared.faults.ImageFault.{ImageFault}
+use Rattle.ocm_journal_image.specs.declared.faults.ImageFault.TheVariants as image_faults
+use Rattle.ocm_journal_image.specs.declared.readings.Image.{Image}
+use Rattle.ocm_journal_audit.specs.Audits.{is_own_host}
+use Rattle.ocm_journal_audit.specs.Stamps as stamps
 use Rattle.ocm_law_sessions.specs.Readings.{opened, refused_at}
 use Rattle.ocm_access_log.specs.declared.lines.LogLine.{LogLine}
 use Rattle.ocm_logcheck.specs.declared.faults.LogFault.{LogFault}

@@ -1,8 +1,8 @@
 -- What a replay of an image's records finds of the lines of a log.
 use Rattle.std.specs.Prelude.{◌≡◌, ◌≤◌, ℕ, ◌+◌, List, [], ◌∷◌, ◌++◌, drop, max, nat_eq, nat_lt, Bool, true, false, if◌then◌else◌, ◌⊎◌, Option, Some, None, Result, Ok, Err}
 use Rattle.ocm_entry.specs.declared.entries.Entry.{Entry}
-use Rattle.ocm_image.specs.Layout.{contents}
-use Rattle.ocm_image.specs.declared.readings.RawRecord.{RawRecord}
+use Rattle.ocm_journal_image.specs.Layout.{contents}
+use Rattle.ocm_journal_image.specs.declared.readings.RawRecord.{RawRecord}
 use Rattle.ocm_rules.specs.History.{IsAnswered}
 use Rattle.ocm_rules.specs.Lean.{count, is_tick}
 use Rattle.ocm_rules.specs.Shares.{moment}

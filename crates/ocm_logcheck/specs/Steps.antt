@@ -2,8 +2,8 @@
 use Rattle.std.specs.Prelude.{◌≡◌, ◌≤◌, ℕ, List, [], ◌∷◌, Bool, true, nat_le, if◌then◌else◌, ◌&&◌, Option, Some, None, IsTrue}
 use Rattle.ocm_entry.specs.declared.entries.Entry.{Entry}
 use Rattle.ocm_entry.specs.Proper.{is_proper}
-use Rattle.ocm_audit.specs.declared.stamps.Stamped.{Stamped}
-use Rattle.ocm_audit.specs.declared.stamps.Stamped.TheVariants as stamps
+use Rattle.ocm_journal_audit.specs.declared.stamps.Stamped.{Stamped}
+use Rattle.ocm_journal_audit.specs.declared.stamps.Stamped.TheVariants as stamps
 use Rattle.ocm_rules.specs.History.{IsAnswered, answer_kept}
 use Rattle.ocm_rules.specs.Lean.{is_tick}
 use Rattle.ocm_rules.specs.Shares.{moment}

@@ -11,7 +11,7 @@ use crate::refusing::{first_refused, own_host};
 use crate::replays::count_true;
 use ocm_access_log::{LogReadFault, read_log};
 use ocm_base::and;
-use ocm_image::{Image, ImageFault, read_blank_for_any, read_image};
+use ocm_journal_image::{Image, ImageFault, read_blank_for_any, read_image};
 use ocm_types::Host;
 use std::alloc::Global;
 

@@ -1,6 +1,6 @@
 //! Laws of the definitions, each the contract of a function that computes nothing.
 ghost use Rattle.std.specs.Prelude.{◌≡◌, ℕ, List, Result, [], Err, IsTrue};
-ghost use Rattle.ocm_audit.specs.Audits.{Audits};
+ghost use Rattle.ocm_journal_audit.specs.Audits.{Audits};
 ghost use Rattle.ocm_access_log.specs.declared.lines.LogLine.{LogLine};
 ghost use Rattle.ocm_access_log.specs.Reads.{is_read};
 ghost use Rattle.ocm_access_log.specs.Truth.{is_true};

@@ -2,9 +2,9 @@
 ghost use Rattle.std.specs.Prelude.{◌≡◌, ◌≤◌, ◌<◌, ◌+◌, ℕ, List, [], length, option_copied, Ok, Err, IfOk, IfErr, OnOk, IfSome, IsTrue, None, true, if◌then◌else◌};
 ghost use Rattle.ocm_entry.specs.declared.entries.Entry.{Entry};
 ghost use Rattle.ocm_entry.specs.Proper.{is_proper};
-ghost use Rattle.ocm_audit.specs.Stamps.{stamped_of};
-ghost use Rattle.ocm_audit.specs.declared.stamps.Stamped.TheVariants as stamps;
-ghost use Rattle.ocm_image.specs.Layout.{contents};
+ghost use Rattle.ocm_journal_audit.specs.Stamps.{stamped_of};
+ghost use Rattle.ocm_journal_audit.specs.declared.stamps.Stamped.TheVariants as stamps;
+ghost use Rattle.ocm_journal_image.specs.Layout.{contents};
 ghost use Rattle.ocm_rules.specs.Lean.{count};
 ghost use Rattle.ocm_rules.specs.Shares.{clock_of};
 ghost use Rattle.ocm_law_sessions.specs.Readings.{goes_on, with_ask, with_stamped};
@@ -15,11 +15,11 @@ ghost use Rattle.ocm_logcheck.specs.Replays.{GivesCount, GoesOn, IsLookedUp, IsR
 use crate::faults::LogFault;
 use crate::stepping::{clock_of, look_up, take, take_moment};
 use ocm_access_log::LogLine;
-use ocm_audit::{Stamped, read_stamped};
 use ocm_base::NoMemory;
 use ocm_core::Core;
 use ocm_entry::Ask;
-use ocm_image::RawRecord;
+use ocm_journal_audit::{Stamped, read_stamped};
+use ocm_journal_image::RawRecord;
 use ocm_types::Host;
 use std::alloc::Global;
 

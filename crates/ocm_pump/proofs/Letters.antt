@@ -2,8 +2,8 @@
 use Rattle.std.proofs.Common.{◌≡◌, ℕ, Bool, true, false, cond, List, None, Result, Ok, Err, refl, ap}
 use Rattle.std.specs.Prelude.{◌&&◌}
 use Rattle.ocm_types.specs.declared.letters.Letter.{Letter}
-use Rattle.ocm_heads.specs.declared.fields.Head.{Head}
-use Rattle.ocm_heads.specs.declared.fields.Head.TheVariants.{Request, Reply}
+use Rattle.ocm_http_heads.specs.declared.fields.Head.{Head}
+use Rattle.ocm_http_heads.specs.declared.fields.Head.TheVariants.{Request, Reply}
 use Rattle.ocm_http.specs.declared.messages.Message.{Message}
 use Rattle.ocm_records.specs.Rows.{record_of}
 use Rattle.ocm_records.specs.declared.faults.RecordFault.{RecordFault}

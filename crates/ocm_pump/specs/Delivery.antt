@@ -8,8 +8,8 @@ use Rattle.ocm_types.specs.declared.letters.Notice.TheVariants as notices
 use Rattle.ocm_types.specs.declared.letters.Letter.{Letter}
 use Rattle.ocm_types.specs.declared.letters.Letter.TheVariants as letters
 use Rattle.ocm_types.specs.declared.letters.Numbered.{Numbered}
-use Rattle.ocm_heads.specs.declared.fields.Head.{Head}
-use Rattle.ocm_heads.specs.declared.fields.Head.TheVariants.{Request, Reply}
+use Rattle.ocm_http_heads.specs.declared.fields.Head.{Head}
+use Rattle.ocm_http_heads.specs.declared.fields.Head.TheVariants.{Request, Reply}
 use Rattle.ocm_http.specs.Written.{written_request}
 use Rattle.ocm_http.specs.declared.messages.Message.{Message}
 use Rattle.ocm_records.specs.Readings.{provider_id}

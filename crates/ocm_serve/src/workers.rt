@@ -2,15 +2,15 @@
 ghost use Rattle.std.specs.Prelude.{◌≡◌, ◌+◌, None, All, IfOk, OnOk, vec_len};
 
 use ocm_base::{Clock, StdClock};
-use ocm_connections::Draw;
 use ocm_entry::Object;
-use ocm_exchanges::{Delivering, Exchanges};
-use ocm_network::{NetDoor, TcpDial};
-use ocm_options::Plan;
+use ocm_net_adapters::{NetDoor, TcpDial};
+use ocm_net_exchanges::{Delivering, Exchanges};
+use ocm_net_sockets::Serving;
 use ocm_pump::Dial;
+use ocm_serve_options::Plan;
 use ocm_serve_system::Opening;
 use ocm_server::{Door, Worker};
-use ocm_sockets::Serving;
+use ocm_server_connections::Draw;
 use std::alloc::Global;
 use std::io::Eprint;
 use std::net::{Net, TcpListener, TcpStream};

@@ -1,7 +1,7 @@
 -- The administrator's key of orders.
 use Rattle.std.specs.Prelude.{◌≡◌, ℕ, List, Result, Ok, Err}
-use Rattle.ocm_options.specs.declared.plans.AdminKey.{AdminKey}
-use Rattle.ocm_options.specs.declared.plans.AdminKey.TheVariants.{Key, File}
+use Rattle.ocm_serve_options.specs.declared.plans.AdminKey.{AdminKey}
+use Rattle.ocm_serve_options.specs.declared.plans.AdminKey.TheVariants.{Key, File}
 use Rattle.ocm_serve_system.specs.declared.openings.OpenFault.{OpenFault}
 use Rattle.ocm_serve_system.specs.declared.openings.OpenFault.TheVariants.{NoMemory}
 

@@ -3,7 +3,7 @@ ghost use Rattle.ocm_serve_system.specs.Keys.{IsKeyOf};
 
 use crate::openings::{Cause, OpenFault};
 use ocm_base::{NoMemory, StdSource};
-use ocm_options::{AdminKey, KeyFault, read_key};
+use ocm_serve_options::{AdminKey, KeyFault, read_key};
 use ocm_types::Secret;
 use std::alloc::Global;
 use std::fs::File;

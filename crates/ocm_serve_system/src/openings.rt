@@ -3,9 +3,9 @@ ghost use Rattle.ocm_serve_system.specs.Statuses.{IsStatus, fault_status};
 
 use libc::types::rlimit;
 use ocm_disk::FileDisk;
-use ocm_options::Plan;
-use ocm_sockets::{Entrance, Limits};
-use ocm_waits::Bell;
+use ocm_net_sockets::{Entrance, Limits};
+use ocm_net_waits::Bell;
+use ocm_serve_options::Plan;
 use std::alloc::Global;
 use std::fs::File;
 use std::io::{ErrorKind, Read};

@@ -8,7 +8,7 @@ use Rattle.ocm_dav.specs.declared.configs.Config.{Config}
 use Rattle.ocm_turn.specs.declared.view.Call.{Call}
 use Rattle.ocm_turn.specs.Calls.{StandIn, InOrder}
 use Rattle.ocm_turn.specs.Passes.{Gate, Known, SameGround}
-use Rattle.ocm_connections.specs.Sides.{Sides}
+use Rattle.ocm_server_connections.specs.Sides.{Sides}
 use Rattle.ocm_server.specs.Objects.{begun, drawn_of, gathered, mine_of, parts_of, Service, Shift}
 use Rattle.ocm_server.specs.Visits.{Work, Worked}
 use Rattle.ocm_server.proofs.Sharing.{shares}

@@ -5,10 +5,10 @@ use Rattle.ocm_dav.specs.declared.configs.Config.{Config}
 use Rattle.ocm_entry.specs.declared.entries.Entry.{Entry}
 use Rattle.ocm_turn.specs.Moves.{Moved}
 use Rattle.ocm_turn.proofs.MoveLemmas.{moved_nothing, moved_then}
-use Rattle.ocm_connections.specs.Sides.{Sides}
+use Rattle.ocm_server_connections.specs.Sides.{Sides}
 use Rattle.ocm_server.specs.Doors.{Doorway, given, came, over}
-use Rattle.ocm_rounds.specs.declared.pumped.Pumped.{Pumped}
-use Rattle.ocm_rounds.specs.Rounds.{Hold, hold}
+use Rattle.ocm_server_rounds.specs.declared.pumped.Pumped.{Pumped}
+use Rattle.ocm_server_rounds.specs.Rounds.{Hold, hold}
 use Rattle.ocm_server.specs.Visits.{Behind, Desk, Visit, Visits, visited, left, Comes, Serves}
 
 pub ok_of : {E A : Type 0} (P : Type 0) (r : Result A E) (a : A) → OnOk r P → r ≡ Ok a → P

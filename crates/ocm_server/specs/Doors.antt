@@ -1,6 +1,6 @@
 -- Doors.
 use Rattle.std.specs.Prelude.{◌<◌, Bool, true, List, ◌∷◌, length, Option, IfSome}
-use Rattle.ocm_connections.specs.declared.endings.Ended.{Ended}
+use Rattle.ocm_server_connections.specs.declared.endings.Ended.{Ended}
 use Rattle.ocm_server.specs.declared.returned.Back.{Back}
 
 -- a door: the connections that it gave, each as it was given; those that came back, each as it came, with its ending; and

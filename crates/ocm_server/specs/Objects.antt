@@ -7,7 +7,7 @@ use Rattle.ocm_turn.specs.declared.view.Call.{Call}
 use Rattle.ocm_turn.specs.Calls.{StandIn, InOrder, Disjoint, entries, merged}
 use Rattle.ocm_turn.specs.Passes.{Gate, Known, BelongsTo}
 use Rattle.ocm_dav.specs.declared.configs.Config.{Config}
-use Rattle.ocm_connections.specs.Sides.{Sides}
+use Rattle.ocm_server_connections.specs.Sides.{Sides}
 use Rattle.ocm_server.specs.Visits.{Work, Worked}
 
 -- a pass that was split off: it has seen what the other has seen, and made no call, and has one of its parts

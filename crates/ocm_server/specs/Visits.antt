@@ -8,12 +8,12 @@ use Rattle.ocm_pump.specs.declared.exchanges.Exchange.{Exchange}
 use Rattle.ocm_turn.specs.Calls.{InOrder}
 use Rattle.ocm_turn.specs.Moves.{Moved}
 use Rattle.ocm_turn.specs.Passes.{Gate, Known, BelongsTo}
-use Rattle.ocm_connections.specs.declared.endings.Ended as endings
-use Rattle.ocm_connections.specs.Sides.{Sides}
-use Rattle.ocm_connections.specs.Parts.{State, state, Talked}
-use Rattle.ocm_rounds.specs.declared.pumped.Pumped.{Pumped}
-use Rattle.ocm_rounds.specs.declared.pumped.RoundEnd.TheVariants.{Spent}
-use Rattle.ocm_rounds.specs.Rounds.{Hold, hold, Rounded}
+use Rattle.ocm_server_connections.specs.declared.endings.Ended as endings
+use Rattle.ocm_server_connections.specs.Sides.{Sides}
+use Rattle.ocm_server_connections.specs.Parts.{State, state, Talked}
+use Rattle.ocm_server_rounds.specs.declared.pumped.Pumped.{Pumped}
+use Rattle.ocm_server_rounds.specs.declared.pumped.RoundEnd.TheVariants.{Spent}
+use Rattle.ocm_server_rounds.specs.Rounds.{Hold, hold, Rounded}
 use Rattle.ocm_server.specs.Doors.{Doorway, came, over}
 use Rattle.ocm_server.specs.declared.returned.Back.{Back}
 use Rattle.ocm_server.specs.declared.workers.Rounds.{Rounds}

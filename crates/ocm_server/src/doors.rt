@@ -3,7 +3,7 @@ ghost use Rattle.ocm_base.specs.Outside.{Rose};
 ghost use Rattle.ocm_server.specs.Doors.{Doorway, given, came, over, IsOut};
 
 use ocm_base::Failed;
-use ocm_connections::{Conn, Ended};
+use ocm_server_connections::{Conn, Ended};
 
 /// Where connections come from, one after another, and where they go back to.
 pub trait Door: Drop {

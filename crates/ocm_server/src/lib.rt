@@ -12,11 +12,11 @@ mod workers;
 pub use doors::Door;
 pub use memory_doors::MemDoor;
 pub use objects::{Finished, serve_object};
-pub use ocm_connections::{
+pub use ocm_server_connections::{
     Conn, Draw, Ended, GateConn, GateEvent, MemConn, Node, Pair, PureConn, RestConn, gate_conn,
     respond, rest_conn, serve_conn,
 };
-pub use ocm_rounds::{Pumped, RoundEnd, pump_round};
+pub use ocm_server_rounds::{Pumped, RoundEnd, pump_round};
 pub use returned::Back;
 pub use served::{Served, served_status};
 pub use workers::{Rounds, Worker, serve_all, serve_worker};

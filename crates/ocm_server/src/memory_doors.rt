@@ -7,7 +7,7 @@ ghost use Rattle.ocm_server.specs.Doors.{given, came, over, IsOut};
 use crate::doors::Door;
 use crate::returned::Back;
 use ocm_base::{Failed, List, NoMemory};
-use ocm_connections::{Conn, Ended};
+use ocm_server_connections::{Conn, Ended};
 use std::alloc::Global;
 use std::marker::Model;
 use std::snapshot::Snapshot;

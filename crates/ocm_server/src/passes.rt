@@ -9,9 +9,9 @@ ghost use Rattle.ocm_server.specs.Visits.{Owns};
 use crate::doors::Door;
 use crate::workers::Worker;
 use ocm_base::Clock;
-use ocm_connections::{Draw, Node};
 use ocm_entry::Object;
 use ocm_pump::Dial;
+use ocm_server_connections::{Draw, Node};
 use ocm_turn::Pass;
 
 /// Gives a worker a pass that is split off, and a stream of drawn values.

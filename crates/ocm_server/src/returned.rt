@@ -1,4 +1,4 @@
-use ocm_connections::Ended;
+use ocm_server_connections::Ended;
 
 /// A connection that came back to its door, with the ending of its service.
 #[derive(Drop)]

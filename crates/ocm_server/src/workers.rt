@@ -3,17 +3,17 @@
 ghost use Rattle.std.specs.Prelude.{◌≡◌, ◌≤◌, ◌<◌, ℕ, None, All, length, slice_index_or};
 ghost use Rattle.ocm_base.specs.Outside.{Rose};
 ghost use Rattle.ocm_turn.specs.Passes.{BelongsTo};
-ghost use Rattle.ocm_rounds.specs.Rounds.{hold};
+ghost use Rattle.ocm_server_rounds.specs.Rounds.{hold};
 ghost use Rattle.ocm_server.specs.Doors.{IsOut};
 ghost use Rattle.ocm_server.specs.Visits.{Behind, Comes, Serves, Owns, Worked, ends, desk, work};
 
 use crate::doors::Door;
 use ocm_base::Clock;
-use ocm_connections::{Conn, Draw, Node, serve_conn};
 use ocm_dav::Config;
 use ocm_entry::Object;
 use ocm_pump::Dial;
-use ocm_rounds::{Pumped, pump_round};
+use ocm_server_connections::{Conn, Draw, Node, serve_conn};
+use ocm_server_rounds::{Pumped, pump_round};
 use ocm_turn::Pass;
 use std::alloc::Global;
 use std::sync::Wait;

@@ -6,13 +6,13 @@ use Rattle.ocm_disk.specs.Disk.{LeavesOnly}
 use Rattle.ocm_disk.specs.declared.disk.Disk.{Ghosts}
 use Rattle.ocm_entry.specs.declared.asks.Ask.{Ask}
 use Rattle.ocm_entry.specs.declared.entries.Entry.{Entry}
-use Rattle.ocm_history_kept.specs.declared.drafts.Draft.{Draft}
+use Rattle.ocm_history_records.specs.declared.drafts.Draft.{Draft}
 use Rattle.ocm_history.specs.declared.histories.History.{History}
 use Rattle.ocm_history.specs.Changes.{FitsInto, IsChange}
 use Rattle.ocm_history.specs.Histories.{home_of}
 use Rattle.ocm_history.proofs.Memories.{change-would, with_change}
-use Rattle.ocm_image.specs.Layout.{IsImage, blocks_size}
-use Rattle.ocm_image.proofs.OneImage.{one_image}
+use Rattle.ocm_journal_image.specs.Layout.{IsImage, blocks_size}
+use Rattle.ocm_journal_image.proofs.OneImage.{one_image}
 use Rattle.ocm_journal.specs.AfterFaults.{AfterFault}
 use Rattle.ocm_journal.specs.declared.appending.AppendFault.{AppendFault}
 use Rattle.ocm_journal.specs.declared.appending.AppendFault.TheVariants as appends

@@ -14,14 +14,14 @@ use Rattle.ocm_types.proofs.HostPorts.{hosts_only}
 use Rattle.ocm_disk.specs.Disk.{LeavesOnly}
 use Rattle.ocm_disk.specs.declared.disk.Disk.{Ghosts}
 use Rattle.ocm_entry.specs.declared.entries.Entry.{Entry}
-use Rattle.ocm_image.specs.declared.blanks.Blank.{Blank}
-use Rattle.ocm_image.specs.declared.readings.Image.{Image}
-use Rattle.ocm_image.specs.declared.readings.RawRecord.{RawRecord}
-use Rattle.ocm_image.specs.Blank.{blank_of}
-use Rattle.ocm_image.specs.Layout.{IsImage, IsLabel, contents}
-use Rattle.ocm_image.specs.Reading.{header_of}
-use Rattle.ocm_image.proofs.ImageRead.{image_read}
-use Rattle.ocm_image.proofs.OneImage.{blank_is_none}
+use Rattle.ocm_journal_image.specs.declared.blanks.Blank.{Blank}
+use Rattle.ocm_journal_image.specs.declared.readings.Image.{Image}
+use Rattle.ocm_journal_image.specs.declared.readings.RawRecord.{RawRecord}
+use Rattle.ocm_journal_image.specs.Blank.{blank_of}
+use Rattle.ocm_journal_image.specs.Layout.{IsImage, IsLabel, contents}
+use Rattle.ocm_journal_image.specs.Reading.{header_of}
+use Rattle.ocm_journal_image.proofs.ImageRead.{image_read}
+use Rattle.ocm_journal_image.proofs.OneImage.{blank_is_none}
 use Rattle.ocm_journal.specs.declared.faults.OpenFault.{OpenFault}
 use Rattle.ocm_journal.specs.declared.faults.OpenFault.TheVariants as faults
 use Rattle.ocm_journal.specs.declared.journal.Journal.{Journal}
@@ -31,8 +31,8 @@ use Rattle.ocm_journal.specs.Openings.{IsMadeAs, Opens, StaysAsItOpens, opening}
 use Rattle.ocm_journal.specs.Openings as openings
 use Rattle.ocm_journal.specs.Passing as passing
 use Rattle.ocm_rules.specs.History.{IsLegal}
-use Rattle.ocm_history_kept.specs.declared.faults.ReplayFault.{ReplayFault}
-use Rattle.ocm_history_kept.specs.declared.faults.ReplayFault.TheVariants as replays
+use Rattle.ocm_history_records.specs.declared.faults.ReplayFault.{ReplayFault}
+use Rattle.ocm_history_records.specs.declared.faults.ReplayFault.TheVariants as replays
 use Rattle.ocm_history.specs.declared.histories.History.{History}
 use Rattle.ocm_history.specs.Histories.{IsOf, home_of}
 use Rattle.ocm_history.specs.Replays.{IsMemoryOf, IsReplayFault}

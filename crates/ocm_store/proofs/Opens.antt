@@ -6,17 +6,17 @@ use Rattle.std.specs.Option.{option_map_or}
 use Rattle.std.specs.Cmp.Lexicographic.{pointwise, bytes_decides}
 use Rattle.ocm_texts.specs.Hex.{AreBytes}
 use Rattle.ocm_entry.specs.declared.entries.Entry.{Entry}
-use Rattle.ocm_image.specs.declared.blanks.Blank.{Blank}
-use Rattle.ocm_image.specs.declared.readings.Area.{Area}
-use Rattle.ocm_image.specs.declared.readings.Header.{Header}
-use Rattle.ocm_image.specs.declared.readings.Image.{Image}
-use Rattle.ocm_image.specs.declared.readings.RawRecord.{RawRecord}
-use Rattle.ocm_image.specs.Blank.{IsBlank, blank_of}
-use Rattle.ocm_image.specs.Layout.{IsImage, blocks_size, contents, live_start, placed}
-use Rattle.ocm_image.specs.Reading.{area_of, header_of, image_below, image_of, live_bytes, start_of, with_header}
-use Rattle.ocm_image.proofs.ImageRead.{image_read}
-use Rattle.ocm_image.proofs.OneImage.{blank_is_none, contents-placed, one_image}
-use Rattle.ocm_image.proofs.ReadBack.{image_stands}
+use Rattle.ocm_journal_image.specs.declared.blanks.Blank.{Blank}
+use Rattle.ocm_journal_image.specs.declared.readings.Area.{Area}
+use Rattle.ocm_journal_image.specs.declared.readings.Header.{Header}
+use Rattle.ocm_journal_image.specs.declared.readings.Image.{Image}
+use Rattle.ocm_journal_image.specs.declared.readings.RawRecord.{RawRecord}
+use Rattle.ocm_journal_image.specs.Blank.{IsBlank, blank_of}
+use Rattle.ocm_journal_image.specs.Layout.{IsImage, blocks_size, contents, live_start, placed}
+use Rattle.ocm_journal_image.specs.Reading.{area_of, header_of, image_below, image_of, live_bytes, start_of, with_header}
+use Rattle.ocm_journal_image.proofs.ImageRead.{image_read}
+use Rattle.ocm_journal_image.proofs.OneImage.{blank_is_none, contents-placed, one_image}
+use Rattle.ocm_journal_image.proofs.ReadBack.{image_stands}
 use Rattle.ocm_journal.specs.declared.faults.OpenFault.TheVariants as faults
 use Rattle.ocm_journal.specs.Openings.{records_below, records_in, unless_blank}
 use Rattle.ocm_rules.specs.History.{IsLegal, kept}

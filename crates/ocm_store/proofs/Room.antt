@@ -4,12 +4,12 @@ use Rattle.std.specs.Prelude.{if◌then◌else◌}
 use Rattle.std.proofs.lemmas.Bool.Decides.{nat_tests}
 use Rattle.ocm_entry.specs.declared.asks.Ask.{Ask}
 use Rattle.ocm_entry.specs.declared.entries.Entry.{Entry}
-use Rattle.ocm_history_kept.specs.declared.drafts.Draft.{Draft}
+use Rattle.ocm_history_records.specs.declared.drafts.Draft.{Draft}
 use Rattle.ocm_history.specs.declared.histories.History.{History}
 use Rattle.ocm_history.specs.Changes.{FitsInto, IsChange}
 use Rattle.ocm_history.specs.Histories.{home_of}
-use Rattle.ocm_history_kept.specs.Kept.{IsBound, is_tick_record}
-use Rattle.ocm_history_kept.proofs.Leaning.{is_tick-record}
+use Rattle.ocm_history_records.specs.Kept.{IsBound, is_tick_record}
+use Rattle.ocm_history_records.proofs.Leaning.{is_tick-record}
 use Rattle.ocm_history.proofs.Memories.{change-would}
 use Rattle.ocm_law_lean.proofs.Thin.{is_tick-kept}
 use Rattle.ocm_law_sessions.specs.Sessions.{fits, heard, lean_size}

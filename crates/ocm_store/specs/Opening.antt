@@ -4,13 +4,13 @@ use Rattle.std.specs.Result.{result_ok}
 use Rattle.std.specs.Option.{option_map_or}
 use Rattle.ocm_base.specs.Outside.{raised}
 use Rattle.ocm_entry.specs.declared.entries.Entry.{Entry}
-use Rattle.ocm_history_kept.specs.declared.faults.ReplayFault.{ReplayFault}
-use Rattle.ocm_history_kept.specs.declared.faults.ReplayFault.TheVariants as replays
-use Rattle.ocm_image.specs.declared.readings.Image.{Image}
-use Rattle.ocm_image.specs.declared.readings.RawRecord.{RawRecord}
-use Rattle.ocm_image.specs.Blank.{IsBlank}
-use Rattle.ocm_image.specs.Layout.{IsImage, contents}
-use Rattle.ocm_image.specs.Reading.{image_of}
+use Rattle.ocm_history_records.specs.declared.faults.ReplayFault.{ReplayFault}
+use Rattle.ocm_history_records.specs.declared.faults.ReplayFault.TheVariants as replays
+use Rattle.ocm_journal_image.specs.declared.readings.Image.{Image}
+use Rattle.ocm_journal_image.specs.declared.readings.RawRecord.{RawRecord}
+use Rattle.ocm_journal_image.specs.Blank.{IsBlank}
+use Rattle.ocm_journal_image.specs.Layout.{IsImage, contents}
+use Rattle.ocm_journal_image.specs.Reading.{image_of}
 use Rattle.ocm_journal.specs.declared.faults.OpenFault.{OpenFault}
 use Rattle.ocm_journal.specs.declared.faults.OpenFault.TheVariants as faults
 use Rattle.ocm_journal.specs.Openings.{opening}

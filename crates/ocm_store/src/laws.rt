@@ -2,7 +2,7 @@
 ghost use Rattle.std.specs.Prelude.{◌≡◌, [], ℕ, List, Ok, Err};
 ghost use Rattle.ocm_texts.specs.Hex.{AreBytes};
 ghost use Rattle.ocm_entry.specs.declared.entries.Entry.{Entry};
-ghost use Rattle.ocm_image.specs.Layout.{IsImage};
+ghost use Rattle.ocm_journal_image.specs.Layout.{IsImage};
 ghost use Rattle.ocm_journal.specs.Openings.{StaysAsItOpens};
 ghost use Rattle.ocm_rules.specs.History.{IsLegal, kept};
 ghost use Rattle.ocm_law_sessions.specs.Sessions.{IsSession};

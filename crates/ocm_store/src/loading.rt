@@ -2,7 +2,7 @@
 ghost use Rattle.std.specs.Prelude.{◌≡◌, ◌⊎◌, ◌≤◌, ◌^◌, ◌++◌, [], ℕ, List, Ok, Some, None, IfOk, IfErr, option_copied, option_map, false};
 ghost use Rattle.ocm_disk.specs.Disk.{LeavesOnly};
 ghost use Rattle.ocm_entry.specs.declared.entries.Entry.{Entry};
-ghost use Rattle.ocm_image.specs.Layout.{contents};
+ghost use Rattle.ocm_journal_image.specs.Layout.{contents};
 ghost use Rattle.ocm_journal.specs.Journals as journals;
 ghost use Rattle.ocm_journal.specs.LiveAreas.{BeginsWith, LiveArea};
 ghost use Rattle.ocm_journal.specs.Openings.{StaysAsItOpens, new_area};

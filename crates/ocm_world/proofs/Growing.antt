@@ -24,7 +24,7 @@ use Rattle.ocm_law_sessions.proofs.Replying.{heard-same, lean-failure, lean-hear
 use Rattle.ocm_store.specs.Growing as stores
 use Rattle.ocm_store.specs.Growing.{OpensLive}
 use Rattle.ocm_store.proofs.Journaling.{after-map}
-use Rattle.ocm_world_lines.specs.Servers.{CutShort, Server, area, cut_after, cut_of, grown_by, history, is_kept, keeps, kept_by_crash, live_after, live_left}
+use Rattle.ocm_script_run.specs.Servers.{CutShort, Server, area, cut_after, cut_of, grown_by, history, is_kept, keeps, kept_by_crash, live_after, live_left}
 use Rattle.ocm_world.proofs.Loading.{kept-alike}
 
 -- ---- histories with the same lean list

@@ -6,9 +6,9 @@ use Rattle.ocm_disk.specs.Shelf.{bytes_of, disk_of, is_of}
 use Rattle.ocm_disk.specs.declared.shelf.Place.{Place}
 use Rattle.ocm_rules.specs.Numbers.{same_text}
 use Rattle.ocm_script.specs.declared.events.Event.{Event}
-use Rattle.ocm_world_lines.specs.Servers.{World}
-use Rattle.ocm_world_lines.specs.Traces.{Logged, names}
-use Rattle.ocm_world_lines.proofs.Hosts.{is_there, logged-run, there-end}
+use Rattle.ocm_script_run.specs.Servers.{World}
+use Rattle.ocm_script_run.specs.Traces.{Logged, names}
+use Rattle.ocm_script_run.proofs.Hosts.{is_there, logged-run, there-end}
 use Rattle.ocm_world.specs.Shelves.{AreShelved}
 
 -- the disk of a server that is there is on the shelf

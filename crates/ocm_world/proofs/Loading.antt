@@ -8,9 +8,9 @@ use Rattle.ocm_disk.specs.declared.crashes.Crash.{Crash}
 use Rattle.ocm_disk.specs.declared.crashes.Crash.TheVariants.{Old, New, Torn}
 use Rattle.ocm_entry.specs.declared.asks.Ask.{Ask}
 use Rattle.ocm_entry.specs.declared.entries.Entry.{Entry}
-use Rattle.ocm_image.specs.declared.blanks.Blank.TheVariants.{Empty}
-use Rattle.ocm_image.specs.Blank.{IsBlank}
-use Rattle.ocm_image.specs.Layout.{IsImage}
+use Rattle.ocm_journal_image.specs.declared.blanks.Blank.TheVariants.{Empty}
+use Rattle.ocm_journal_image.specs.Blank.{IsBlank}
+use Rattle.ocm_journal_image.specs.Layout.{IsImage}
 use Rattle.ocm_journal.specs.Journals.{selects_first}
 use Rattle.ocm_journal.specs.LiveAreas.{BeginsWith, IsImageLive, LiveArea}
 use Rattle.ocm_journal.proofs.LiveAreas.{live_is_selected}
@@ -33,12 +33,12 @@ use Rattle.ocm_store.specs.declared.stores.Store.{Store}
 use Rattle.ocm_store.specs.declared.terms.Terms.{Terms}
 use Rattle.ocm_store.proofs.Journaling.{live-opens}
 use Rattle.ocm_store.proofs.Opens.{areas-same, opens-loaded, opens-once}
-use Rattle.ocm_image.proofs.OneImage.{blank_is_none}
+use Rattle.ocm_journal_image.proofs.OneImage.{blank_is_none}
 use Rattle.ocm_world.specs.declared.nodes.Node.{Node}
-use Rattle.ocm_world_lines.specs.Servers.{Server, area, history, is_kept, kept_by_crash, live_left, message_of, new_live, new_server, restart}
-use Rattle.ocm_world_lines.specs.Running.{IsSound}
+use Rattle.ocm_script_run.specs.Servers.{Server, area, history, is_kept, kept_by_crash, live_left, message_of, new_live, new_server, restart}
+use Rattle.ocm_script_run.specs.Running.{IsSound}
 use Rattle.ocm_world.specs.Running.{IsDiskOf, IsLoaded, IsOf}
-use Rattle.ocm_world_lines.proofs.Acting.{alike-after}
+use Rattle.ocm_script_run.proofs.Acting.{alike-after}
 
 -- what a server opened to with its calls has the lean list of its history
 pub alike-history : (node : Node) (server : Server) (is : IsOf node server) → lean server.host (server.calls ++ is.opened) ≡ lean server.host (history server)

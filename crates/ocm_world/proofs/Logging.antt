@@ -5,8 +5,8 @@ use Rattle.ocm_base.specs.Outside.{AppendsPart}
 use Rattle.ocm_disk.specs.Shelf.{bytes_of, disk_of}
 use Rattle.ocm_disk.specs.declared.shelf.Place.{Place}
 use Rattle.ocm_script.specs.declared.events.Event.{Event}
-use Rattle.ocm_world_lines.specs.Servers.{World}
-use Rattle.ocm_world_lines.specs.Traces.{Logged, log_input}
+use Rattle.ocm_script_run.specs.Servers.{World}
+use Rattle.ocm_script_run.specs.Traces.{Logged, log_input}
 use Rattle.ocm_world.specs.Shelves.{AreShelved}
 use Rattle.ocm_world.specs.Traces.{TracesPart}
 

@@ -11,7 +11,7 @@ use Rattle.ocm_law_sessions.proofs.Replying.{heard-same}
 use Rattle.ocm_store.specs.Stores.{LeavesNext, disk_of}
 use Rattle.ocm_store.specs.declared.terms.Terms.{Terms}
 use Rattle.ocm_world.specs.declared.nodes.Node.{Node}
-use Rattle.ocm_world_lines.specs.Servers.{Server, World, area, history}
+use Rattle.ocm_script_run.specs.Servers.{Server, World, area, history}
 use Rattle.ocm_world.specs.Running.{AreOf, IsOf, shelved}
 use Rattle.ocm_world.specs.Shelves.{AreShelved, IsShelved}
 use Rattle.ocm_world.proofs.Loading.{alike-history}

@@ -25,9 +25,9 @@ use Rattle.ocm_store.specs.Growing as stores
 use Rattle.ocm_store.specs.Growing.{HasLiveArea, OpensLive}
 use Rattle.ocm_store.specs.Stores.{IsLegalUnder, Stands, disk_of, host_of, terms_of}
 use Rattle.ocm_world.specs.declared.nodes.Node.{Node}
-use Rattle.ocm_world_lines.specs.Servers.{Server, area, cut_after, cut_of, history, live_after, reply_of, server_after, with_call}
+use Rattle.ocm_script_run.specs.Servers.{Server, area, cut_after, cut_of, history, live_after, reply_of, server_after, with_call}
 use Rattle.ocm_world.specs.Running.{IsOf}
-use Rattle.ocm_world_lines.proofs.Acting.{Tells, no_fault-before, replies, sound-after}
+use Rattle.ocm_script_run.proofs.Acting.{Tells, no_fault-before, replies, sound-after}
 use Rattle.ocm_world.proofs.Growing.{Keeps, crash-faulted, crash-stopped, fault-reply, few_left, live-alike, makes-nothing}
 use Rattle.ocm_world.proofs.Loading.{alike-history, crash-stands, same-host}
 

@@ -8,9 +8,9 @@ use Rattle.ocm_entry.specs.declared.asks.Ask.{Ask}
 use Rattle.ocm_entry.specs.declared.replies.Reply.{Reply}
 use Rattle.ocm_rules.specs.Numbers.{same_text}
 use Rattle.ocm_world.specs.declared.nodes.Node.{Node}
-use Rattle.ocm_world_lines.specs.Servers.{Server, World, reply_of, server_after, server_at, step_at}
-use Rattle.ocm_world_lines.specs.Running.{Asks}
-use Rattle.ocm_world_lines.proofs.Worlds.{asked-nowhere, step-nowhere}
+use Rattle.ocm_script_run.specs.Servers.{Server, World, reply_of, server_after, server_at, step_at}
+use Rattle.ocm_script_run.specs.Running.{Asks}
+use Rattle.ocm_script_run.proofs.Worlds.{asked-nowhere, step-nowhere}
 use Rattle.ocm_world.specs.Running.{AreOf, IsOf, is_at}
 
 -- the server at this place is the first of this host

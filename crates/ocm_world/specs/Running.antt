@@ -5,7 +5,7 @@ use Rattle.ocm_disk.specs.contracts.memory.MemDiskDisk.TheImpl.{ghosts}
 use Rattle.ocm_disk.specs.declared.crashes.Crash.{Crash}
 use Rattle.ocm_disk.specs.declared.shelf.Place.{Place}
 use Rattle.ocm_entry.specs.declared.entries.Entry.{Entry}
-use Rattle.ocm_image.specs.Blank.{IsBlank}
+use Rattle.ocm_journal_image.specs.Blank.{IsBlank}
 use Rattle.ocm_journal.specs.LiveAreas.{BeginsWith, LiveArea}
 use Rattle.ocm_rules.specs.Lean.{lean}
 use Rattle.ocm_rules.specs.Numbers.{same_text}
@@ -15,8 +15,8 @@ use Rattle.ocm_store.specs.Growing.{HasLiveArea, OpensLive}
 use Rattle.ocm_store.specs.Opening.{IsImageIn, OpensTo}
 use Rattle.ocm_store.specs.Stores.{Stands, disk_of, terms_of}
 use Rattle.ocm_world.specs.declared.nodes.Node.{Node}
-use Rattle.ocm_world_lines.specs.Running.{IsSound}
-use Rattle.ocm_world_lines.specs.Servers.{Server, World, area, is_kept, kept_by_crash, live_left}
+use Rattle.ocm_script_run.specs.Running.{IsSound}
+use Rattle.ocm_script_run.specs.Servers.{Server, World, area, is_kept, kept_by_crash, live_left}
 
 -- The store of one server stands for it: its calls are the same, and what it opened to has the same lean list.
 pub record IsOf (node : Node) (server : Server) : Type 0 where

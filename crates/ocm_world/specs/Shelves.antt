@@ -3,7 +3,7 @@ use Rattle.std.specs.Prelude.{◌≡◌, List, [], ◌∷◌, Some, None}
 use Rattle.ocm_disk.specs.Memory.{DiskState}
 use Rattle.ocm_disk.specs.declared.shelf.Place.{Place}
 use Rattle.ocm_store.specs.Stores.{LeavesNext}
-use Rattle.ocm_world_lines.specs.Servers.{Server, World, area}
+use Rattle.ocm_script_run.specs.Servers.{Server, World, area}
 
 -- A place has the server's host and its disk, whose bytes open to a list with the lean list of its history or, where its disk failed in its session, with that or that and the ask at which it failed.
 pub record IsShelved (server : Server) (place : Place) : Type 0 where

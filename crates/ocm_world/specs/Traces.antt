@@ -4,8 +4,8 @@ use Rattle.ocm_base.specs.Outside.{Appends}
 use Rattle.ocm_disk.specs.Shelf.{bytes_of, disk_of}
 use Rattle.ocm_disk.specs.declared.shelf.Place.{Place}
 use Rattle.ocm_script.specs.declared.events.Event.{Event}
-use Rattle.ocm_world_lines.specs.Servers.{World}
-use Rattle.ocm_world_lines.specs.Traces.{Logged, log_input}
+use Rattle.ocm_script_run.specs.Servers.{World}
+use Rattle.ocm_script_run.specs.Traces.{Logged, log_input}
 use Rattle.ocm_world.specs.Shelves.{AreShelved}
 
 -- The text added is the image of the host's disk, as the shelf has it, and the log of a run that leaves these servers.

@@ -1,14 +1,14 @@
 //! Scripts that are made from a number, and the summary of what came of them.
 ghost use Rattle.std.specs.Prelude.{◌≡◌, ◌≤◌, ◌⊎◌, [], Err, OnOk, OnErr};
 ghost use Rattle.ocm_base.specs.Outside.{Rose};
-ghost use Rattle.ocm_world_lines.specs.Drills.{Drills, DrillsPart};
-ghost use Rattle.ocm_world_lines.specs.Servers.{World};
+ghost use Rattle.ocm_script_run.specs.Drills.{Drills, DrillsPart};
+ghost use Rattle.ocm_script_run.specs.Servers.{World};
 ghost use Rattle.ocm_world.specs.Shelves.{AreShelved};
 
 use crate::servers::Servers;
 use ocm_base::{Sink, write_all};
 use ocm_disk::Shelf;
-use ocm_world_lines::{WorldFault, summarise};
+use ocm_script_run::{WorldFault, summarise};
 use std::alloc::Global;
 
 /// Runs the script that is made from a number, with so many events after its first 16, and writes a

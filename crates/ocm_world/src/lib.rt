@@ -9,6 +9,6 @@ mod traces;
 
 pub use drills::drill;
 pub use ocm_script::{Body, Event, ScriptFault, read_script};
-pub use ocm_world_lines::{WorldFault, laws, names};
+pub use ocm_script_run::{WorldFault, laws, names};
 pub use replays::replay;
 pub use traces::trace;

@@ -2,17 +2,17 @@
 ghost use Rattle.std.specs.Prelude.{◌≡◌, IfOk, None, Some, option_copied};
 ghost use Rattle.ocm_rules.specs.Lean.{count};
 ghost use Rattle.ocm_world.specs.Running.{IsDiskOf, IsLoaded, IsOf, is_at};
-ghost use Rattle.ocm_world_lines.specs.Running.{IsSound, state_of};
-ghost use Rattle.ocm_world_lines.specs.Servers.{Server, history, message_of, restart};
+ghost use Rattle.ocm_script_run.specs.Running.{IsSound, state_of};
+ghost use Rattle.ocm_script_run.specs.Servers.{Server, history, message_of, restart};
 ghost use Rattle.ocm_store.specs.Stores.{disk_of};
 
 use ocm_base::{NoMemory, and};
 use ocm_disk::{Crash, MemDisk};
 use ocm_entry::{Ask, Object, Reply};
 use ocm_limits::REPLAYED_DISK_BYTES;
+use ocm_script_run::ScriptServer;
 use ocm_store::{LoadFault, Store};
 use ocm_types::{Host, Numbered};
-use ocm_world_lines::ScriptServer;
 use std::alloc::Global;
 
 /// A server of a script: its host, its store, and what the last `clock` line told it, 0 before the first.

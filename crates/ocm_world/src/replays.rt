@@ -4,15 +4,15 @@ ghost use Rattle.std.specs.List.{list_all};
 ghost use Rattle.ocm_base.specs.Outside.{Rose};
 ghost use Rattle.ocm_limits.specs.Limits.{most_lines};
 ghost use Rattle.ocm_script.specs.Events.{has_short_paths};
-ghost use Rattle.ocm_world_lines.specs.Servers.{World};
+ghost use Rattle.ocm_script_run.specs.Servers.{World};
 ghost use Rattle.ocm_world.specs.Shelves.{AreShelved};
-ghost use Rattle.ocm_world_lines.specs.Transcript.{Writes, WritesPart};
+ghost use Rattle.ocm_script_run.specs.Transcript.{Writes, WritesPart};
 
 use crate::servers::Servers;
 use ocm_base::{List, Sink};
 use ocm_disk::Shelf;
 use ocm_script::Event;
-use ocm_world_lines::{WorldFault, run_events};
+use ocm_script_run::{WorldFault, run_events};
 use std::alloc::Global;
 
 /// Runs a script, and writes its transcript. Where it ends early, a front of a transcript was

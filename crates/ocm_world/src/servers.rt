@@ -3,15 +3,15 @@ ghost use Rattle.std.specs.Prelude.{◌≡◌, ◌∷◌, ◌++◌, [], OnOk, No
 ghost use Rattle.ocm_disk.specs.Memory.{settled};
 ghost use Rattle.ocm_disk.specs.Shelf.{refusal};
 ghost use Rattle.ocm_world.specs.Running.{AreOf, is_at, shelved};
-ghost use Rattle.ocm_world_lines.specs.Servers.{World};
+ghost use Rattle.ocm_script_run.specs.Servers.{World};
 ghost use Rattle.ocm_world.specs.Shelves.{AreShelved};
 
 use crate::nodes::{Node, load};
 use ocm_base::{Bytes, NoMemory};
 use ocm_disk::{Crash, MemDisk, Shelf};
 use ocm_entry::{Ask, Reply};
+use ocm_script_run::{ScriptServer, ScriptServers, talk};
 use ocm_types::{Fresh, Host, Numbered};
-use ocm_world_lines::{ScriptServer, ScriptServers, talk};
 use std::alloc::Global;
 use std::marker::Model;
 

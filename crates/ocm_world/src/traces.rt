@@ -6,8 +6,8 @@ ghost use Rattle.ocm_base.specs.Outside.{Rose};
 ghost use Rattle.ocm_limits.specs.Limits.{most_lines};
 ghost use Rattle.ocm_disk.specs.Shelf.{bytes_of, disk_of};
 ghost use Rattle.ocm_script.specs.Events.{has_short_paths};
-ghost use Rattle.ocm_world_lines.specs.Servers.{World};
-ghost use Rattle.ocm_world_lines.specs.Traces as traced;
+ghost use Rattle.ocm_script_run.specs.Servers.{World};
+ghost use Rattle.ocm_script_run.specs.Traces as traced;
 ghost use Rattle.ocm_world.specs.Shelves.{AreShelved};
 ghost use Rattle.ocm_world.specs.Traces.{Traces, TracesPart};
 
@@ -15,8 +15,8 @@ use crate::servers::Servers;
 use ocm_base::{List, Sink};
 use ocm_disk::Shelf;
 use ocm_script::Event;
+use ocm_script_run::{WorldFault, log_events, write_input};
 use ocm_types::Host;
-use ocm_world_lines::{WorldFault, log_events, write_input};
 use std::alloc::Global;
 
 /// Runs a script, and writes the journal image and the access log of one of its servers: the length of

@@ -2,15 +2,15 @@
 use Rattle.std.specs.Prelude.{◌≡◌, ◌⊎◌, ℕ, List, [], Option, None, true, false, IfSome}
 use Rattle.ocm_base.specs.Outside.{Appends, AppendsPart, Rose}
 use Rattle.ocm_disk.specs.declared.shelf.Place.{Place}
-use Rattle.ocm_options.specs.Plans.{asks_serve, orders_of}
+use Rattle.ocm_serve_options.specs.Plans.{asks_serve, orders_of}
 use Rattle.ocm_serve_system.specs.Statuses as serves
-use Rattle.ocm_remote.specs.Words.{IsOther}
-use Rattle.ocm_remote.specs.declared.ends.End as remotes
-use Rattle.ocm_remote.specs.declared.ends.End.TheVariants as asked
-use Rattle.ocm_commands_checks.specs.Commands.{IsLong, IsStatus, IsWhole, end_status, usage_line}
-use Rattle.ocm_commands_checks.specs.Words.{AreOf, AreOther, BeginTrace, input_of, reads}
-use Rattle.ocm_commands_checks.specs.declared.ends.End.{End}
-use Rattle.ocm_commands_checks.specs.declared.words.Command.{Command}
+use Rattle.ocm_commands_dav.specs.Words.{IsOther}
+use Rattle.ocm_commands_dav.specs.declared.ends.End as remotes
+use Rattle.ocm_commands_dav.specs.declared.ends.End.TheVariants as asked
+use Rattle.ocm_commands_files.specs.Commands.{IsLong, IsStatus, IsWhole, end_status, usage_line}
+use Rattle.ocm_commands_files.specs.Words.{AreOf, AreOther, BeginTrace, input_of, reads}
+use Rattle.ocm_commands_files.specs.declared.ends.End.{End}
+use Rattle.ocm_commands_files.specs.declared.words.Command.{Command}
 use Rattle.ocm_commands_network.specs.Words.{asks_remote}
 use Rattle.ocm_commands.specs.Commands.{Writes, WritesPart}
 

@@ -3,17 +3,17 @@
 
 ghost use Rattle.std.specs.Prelude.{◌≡◌, ◌⊎◌};
 ghost use Rattle.ocm_base.specs.Outside.{Appends, AppendsPart, Rose};
-ghost use Rattle.ocm_options.specs.Plans.{texts};
-ghost use Rattle.ocm_remote.specs.Answers.{status_of};
-ghost use Rattle.ocm_remote.specs.Exchanges.{AsksPut};
-ghost use Rattle.ocm_remote.specs.declared.ends.End.{End};
-ghost use Rattle.ocm_remote.specs.declared.ends.End.TheVariants as asked;
-ghost use Rattle.ocm_commands_checks.specs.Commands.{usage_line};
+ghost use Rattle.ocm_serve_options.specs.Plans.{texts};
+ghost use Rattle.ocm_commands_dav.specs.Answers.{status_of};
+ghost use Rattle.ocm_commands_dav.specs.Exchanges.{AsksPut};
+ghost use Rattle.ocm_commands_dav.specs.declared.ends.End.{End};
+ghost use Rattle.ocm_commands_dav.specs.declared.ends.End.TheVariants as asked;
+ghost use Rattle.ocm_commands_files.specs.Commands.{usage_line};
 ghost use Rattle.ocmd.specs.Runs.{AloneEnds, AloneReads, AskAlone, AskRemote, AskServe, RemoteEnds, ServeEnds};
 
 use ocm_base::{Sink, Source, StdSink, StdSource};
 use ocm_commands::command;
-use ocm_commands_checks::usage;
+use ocm_commands_files::usage;
 use ocm_commands_network::{asks_remote, asks_serve, run_remote, run_server, told};
 use ocm_disk::Shelf;
 use ocm_serve::StandIns;

@@ -1,7 +1,7 @@
 use Rattle.std.specs.Prelude.{Err}
 use mathlib.Core.Logic.{inr}
-use Rattle.ocm_options.specs.Plans.{texts}
-use Rattle.ocm_commands_checks.specs.declared.ends.Fault.TheVariants as faults
+use Rattle.ocm_serve_options.specs.Plans.{texts}
+use Rattle.ocm_commands_files.specs.declared.ends.Fault.TheVariants as faults
 use Rattle.ocm_commands.proofs.Parts.{IsStatus-usage, not-other, run-part}
 use Rattle.ocm_commands.proofs.commands.command.Goals as goal
 

@@ -1,6 +1,6 @@
 use Rattle.std.proofs.lemmas.Result.{on_err_weaker}
 use Rattle.ocm_commands.specs.Commands.{WritesPart}
-use Rattle.ocm_commands_checks.specs.Words.{input_of}
+use Rattle.ocm_commands_files.specs.Words.{input_of}
 use Rattle.ocm_commands.proofs.Drilled.{on-input}
 use Rattle.ocm_commands.proofs.commands.run.Goals as goal
 

@@ -1,9 +1,9 @@
 use Rattle.std.proofs.lemmas.Result.{on_err_weaker}
 use Rattle.std.proofs.Common.{refl}
 use Rattle.ocm_commands.proofs.Parts.{front-part}
-use Rattle.ocm_commands_checks.specs.Lines.{bad_line}
-use Rattle.ocm_commands_checks.specs.declared.ends.End.TheVariants as whole
-use Rattle.ocm_commands_checks.specs.declared.words.Command.TheVariants as commands
+use Rattle.ocm_commands_files.specs.Lines.{bad_line}
+use Rattle.ocm_commands_files.specs.declared.ends.End.TheVariants as whole
+use Rattle.ocm_commands_files.specs.declared.words.Command.TheVariants as commands
 use Rattle.ocm_commands.proofs.scripts.run_script.Goals as goal
 
 pub returns-in-Err-Line-clause-part : goal.returns-in-Err-Line-clause-part

@@ -2,11 +2,11 @@ use Rattle.std.proofs.Common.{◌≡◌, false, refl, arith}
 use Rattle.std.specs.List.{list_any}
 use Rattle.std.proofs.lemmas.Result.{on_err_weaker}
 use mathlib.Core.Logic.{inl, inr}
-use Rattle.ocm_world_lines.specs.Traces.{names}
+use Rattle.ocm_script_run.specs.Traces.{names}
 use Rattle.ocm_commands.proofs.Parts.{front-part}
-use Rattle.ocm_commands_checks.specs.Lines.{bad_line}
-use Rattle.ocm_commands_checks.specs.declared.ends.End.TheVariants as whole
-use Rattle.ocm_commands_checks.specs.declared.words.Command.TheVariants as commands
+use Rattle.ocm_commands_files.specs.Lines.{bad_line}
+use Rattle.ocm_commands_files.specs.declared.ends.End.TheVariants as whole
+use Rattle.ocm_commands_files.specs.declared.words.Command.TheVariants as commands
 use Rattle.ocm_commands.proofs.traces.run_trace.Goals as goal
 
 pub returns-in-Err-Line-clause-part : goal.returns-in-Err-Line-clause-part

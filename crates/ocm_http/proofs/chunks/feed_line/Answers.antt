@@ -1,7 +1,7 @@
 use Rattle.std.proofs.Common.{rules, ◌≡◌, ◌<◌, ◌≤◌, ◌-◌, ◌++◌, length, take, subst, arith}
 use Rattle.std.proofs.lemmas.Grind.{common_steps}
 use Rattle.httparse.specs.Grammar.{HasNoChunkLine, MayBecomeChunkLine, NeverHasChunkLine}
-use Rattle.ocm_heads.specs.ChunkLines.{LineOf}
+use Rattle.ocm_http_heads.specs.ChunkLines.{LineOf}
 use Rattle.ocm_http.proofs.LineSteps.{line_full, line_refused, line_goes, line_done, line_fault, line_longer}
 use Rattle.ocm_http.proofs.chunks.feed_line.Goals as goal
 

@@ -1,6 +1,6 @@
 use Rattle.std.proofs.Common.{ℕ, Bool, List, cond, ◌≡◌, ◌≤◌, ◌++◌, take, refl, sym, ap, ◌∙◌, subst}
 use Rattle.std.proofs.lemmas.List.{length-take-le}
-use Rattle.ocm_heads.specs.Endings.{lines, blanks}
+use Rattle.ocm_http_heads.specs.Endings.{lines, blanks}
 use Rattle.ocm_http.specs.Places.{past}
 use Rattle.ocm_http.specs.Frames.{Refused}
 use Rattle.ocm_http.specs.Stages.{Begins, HeadedBy}

@@ -1,5 +1,5 @@
 use Rattle.std.proofs.Common.{◌⊎◌, ℕ, List, IfOk, is_some, inl, inr, sym, ◌∙◌, ap, subst}
-use Rattle.ocm_image.specs.Blank.{blank_of}
+use Rattle.ocm_journal_image.specs.Blank.{blank_of}
 use Rattle.ocm_disk.specs.Disk.{Only}
 use Rattle.ocm_journal.specs.Openings.{IsMadeAs, StaysAsItOpens}
 use Rattle.ocm_journal.specs.Passing.{FailsWithDisk}

@@ -1,7 +1,7 @@
 use Rattle.std.proofs.Common.{◌≡◌, ℕ, [], List, Some, is_some, inl, refl, sym, ◌∙◌, ap, subst}
 use Rattle.std.proofs.lemmas.Result.{err_from_is_err_and}
 use Rattle.ocm_disk.specs.Disk.{Only}
-use Rattle.ocm_image.specs.Blank.{blank_of, IsBlank}
+use Rattle.ocm_journal_image.specs.Blank.{blank_of, IsBlank}
 use Rattle.ocm_journal.specs.Openings.{Opens}
 use Rattle.ocm_journal.specs.Passing.{FailsWithDisk}
 use Rattle.ocm_journal.proofs.AppendStands.{on_ok}

@@ -1,5 +1,5 @@
 use Rattle.std.proofs.Common.{get_or, Some, ◌∙◌, ap}
-use Rattle.ocm_image.specs.declared.blanks.Blank.{Blank}
+use Rattle.ocm_journal_image.specs.declared.blanks.Blank.{Blank}
 use Rattle.ocm_journal.proofs.Made.{blank_has}
 use Rattle.ocm_journal.proofs.making.make.Goals as goal
 

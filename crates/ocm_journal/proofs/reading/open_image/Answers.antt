@@ -1,7 +1,7 @@
 use Rattle.std.proofs.Common.{rules, ◌≡◌, ℕ, min, List, length, sym, ◌∙◌, arith}
 use Rattle.std.proofs.lemmas.Result.{err_from_is_err_and}
 use Rattle.ocm_texts.specs.Hex.{AreBytes}
-use Rattle.ocm_image.specs.Reading.{live_bytes}
+use Rattle.ocm_journal_image.specs.Reading.{live_bytes}
 use Rattle.ocm_journal.specs.Passing.{FailsWithDisk}
 use Rattle.ocm_journal.proofs.OpenedImage.{if_ok, if_ok_both, if_err, front_header, said_header, other_label, label_same, below_is, area_wanting, live_read, reads_area, says_area, image_opens}
 use Rattle.ocm_journal.proofs.Passing.{always, image_fault, said_fault}

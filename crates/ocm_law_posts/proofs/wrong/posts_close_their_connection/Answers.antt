@@ -1,8 +1,8 @@
 use Rattle.std.proofs.Common.{◌≡◌, Bool, true, false, [], ap, true≢false}
 use Rattle.ocm_limits.specs.Limits.{most_body_bytes}
 use Rattle.ocm_types.specs.declared.letters.Letter.{Letter}
-use Rattle.ocm_heads.specs.declared.fields.Head.{Head}
-use Rattle.ocm_heads.specs.declared.fields.Head.TheVariants.{Request}
+use Rattle.ocm_http_heads.specs.declared.fields.Head.{Head}
+use Rattle.ocm_http_heads.specs.declared.fields.Head.TheVariants.{Request}
 use Rattle.ocm_http.specs.Frames.{Frame, Given}
 use Rattle.ocm_http.specs.declared.messages.Kind.TheVariants.{Requests}
 use Rattle.ocm_http.proofs.Unique.{frame_one}

@@ -1,5 +1,5 @@
 use Rattle.ocm_law_sessions.proofs.Replying.{session-legal}
-use Rattle.ocm_world_lines.specs.Servers.{area}
+use Rattle.ocm_script_run.specs.Servers.{area}
 use Rattle.ocm_law_runs.proofs.Transcripts.{session-of-transcript}
 use Rattle.ocm_law_runs.proofs.laws.every_server_of_a_transcript_has_a_legal_history.Goals as goal
 

@@ -4,7 +4,7 @@ use Rattle.ocm_rules.specs.Cases.{offer_to_bob, our_host}
 use Rattle.ocm_rules.specs.Numbers.{at_number}
 use Rattle.ocm_rules.specs.Shares.{made}
 use Rattle.ocm_law_world.proofs.Reached.{nothing-there}
-use Rattle.ocm_world_lines.specs.Servers.{Server, new_server}
+use Rattle.ocm_script_run.specs.Servers.{Server, new_server}
 use Rattle.ocm_law_runs.specs.Standing.{IsMade, kept_at}
 use Rattle.ocm_law_runs.specs.Wrong.{forged_at_bob}
 use Rattle.ocm_law_runs.proofs.wrong.an_acceptance_confirms_nothing.Goals as goal

@@ -1,5 +1,5 @@
 use Rattle.std.proofs.Common.{rules}
-use Rattle.ocm_image.specs.Blank.{IsBlankForAny}
+use Rattle.ocm_journal_image.specs.Blank.{IsBlankForAny}
 use Rattle.ocm_logcheck.proofs.Telling.{checks-blank, checks-fault}
 use Rattle.ocm_logcheck.proofs.checks.check_log.Goals as goal
 

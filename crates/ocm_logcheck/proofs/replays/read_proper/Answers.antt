@@ -1,5 +1,5 @@
 use Rattle.std.proofs.Common.{rules}
-use Rattle.ocm_spelling.specs.Spells.{AreBytes}
+use Rattle.ocm_entry_bytes.specs.Spells.{AreBytes}
 use Rattle.ocm_logcheck.proofs.Proper.{proper-read}
 use Rattle.ocm_logcheck.proofs.replays.read_proper.Goals as goal
 

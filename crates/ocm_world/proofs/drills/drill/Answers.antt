@@ -1,7 +1,7 @@
 use Rattle.std.proofs.Common.{inr, subst, ◌∙◌, List, [], sym}
 use Rattle.std.proofs.lemmas.Result.{err_from_is_err_and}
 use Rattle.ocm_base.specs.Outside.{Appends}
-use Rattle.ocm_world_lines.proofs.Drilling.{DrillsPart-cut}
+use Rattle.ocm_script_run.proofs.Drilling.{DrillsPart-cut}
 use Rattle.ocm_world.specs.declared.nodes.Node.{Node}
 use Rattle.ocm_world.specs.Running.{AreOf}
 use Rattle.ocm_world.proofs.drills.drill.Goals as goal

@@ -7,8 +7,8 @@ use Rattle.ocm_store.specs.Growing.{HasLiveArea}
 use Rattle.ocm_store.specs.Opening.{OpensTo}
 use Rattle.ocm_store.specs.Stores.{area_of, disk_of, terms_of}
 use Rattle.ocm_store.specs.declared.terms.Terms.{Terms}
-use Rattle.ocm_world_lines.specs.Servers.{area}
-use Rattle.ocm_world_lines.proofs.Acting.{sound-loaded}
+use Rattle.ocm_script_run.specs.Servers.{area}
+use Rattle.ocm_script_run.proofs.Acting.{sound-loaded}
 use Rattle.ocm_world.proofs.Loading.{loaded-area, wants-memory}
 use Rattle.ocm_world.proofs.nodes.load.Goals as goal
 

@@ -1,7 +1,7 @@
 use Rattle.std.proofs.Common.{List, [], sym, subst}
 use Rattle.std.proofs.lemmas.Result.{err_from_is_err_and}
-use Rattle.ocm_world_lines.proofs.Properly.{proper-lines}
-use Rattle.ocm_world_lines.proofs.Scripts.{WritesPart-whole}
+use Rattle.ocm_script_run.proofs.Properly.{proper-lines}
+use Rattle.ocm_script_run.proofs.Scripts.{WritesPart-whole}
 use Rattle.ocm_world.specs.declared.nodes.Node.{Node}
 use Rattle.ocm_world.specs.Running.{AreOf}
 use Rattle.ocm_world.proofs.replays.replay.Goals as goal

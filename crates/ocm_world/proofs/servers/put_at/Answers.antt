@@ -1,6 +1,6 @@
 use Rattle.std.proofs.Common.{[]}
 use Rattle.ocm_disk.specs.Memory.{settled}
-use Rattle.ocm_world_lines.proofs.Shelving.{put_on}
+use Rattle.ocm_script_run.proofs.Shelving.{put_on}
 use Rattle.ocm_world.proofs.servers.put_at.Goals as goal
 
 pub returns-in-Ok : goal.returns-in-Ok

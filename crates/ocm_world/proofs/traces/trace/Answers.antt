@@ -4,7 +4,7 @@ use Rattle.ocm_texts.specs.Hex.{AreBytes}
 use Rattle.std.proofs.lemmas.Result.{err_from_is_err_and}
 use Rattle.ocm_world.proofs.Hosts.{image-there}
 use Rattle.ocm_world.proofs.Logging.{TracesPart-cut}
-use Rattle.ocm_world_lines.proofs.Properly.{proper-lines}
+use Rattle.ocm_script_run.proofs.Properly.{proper-lines}
 use Rattle.ocm_world.specs.declared.nodes.Node.{Node}
 use Rattle.ocm_world.specs.Running.{AreOf}
 use Rattle.ocm_world.proofs.traces.trace.Goals as goal

@@ -1,13 +1,13 @@
 use Rattle.std.proofs.Common.{◌≡◌, ◌+◌, ◌++◌, ◌∷◌, [], Err, ap, ◌∙◌, sym, subst, arith, length, take}
 use Rattle.std.proofs.lemmas.Result.{err_from_is_err_and}
 use Rattle.std.proofs.Math.Seq.{take-length}
-use Rattle.ocm_image.specs.Layout.{AreRecords}
-use Rattle.ocm_history_kept.specs.declared.faults.RecordFault.TheVariants.{TooLong}
+use Rattle.ocm_journal_image.specs.Layout.{AreRecords}
+use Rattle.ocm_history_records.specs.declared.faults.RecordFault.TheVariants.{TooLong}
 use Rattle.ocm_history.specs.Histories.{home_of}
-use Rattle.ocm_history_kept.specs.Kept.{IsTooLong, is_tick_record, lean_asks, lean_text, lean_texts}
+use Rattle.ocm_history_records.specs.Kept.{IsTooLong, is_tick_record, lean_asks, lean_text, lean_texts}
 use Rattle.ocm_history.specs.Kept.{bodies_with}
-use Rattle.ocm_history_kept.proofs.Counting.{asks-more, newest-short, older-short}
-use Rattle.ocm_history_kept.proofs.Leaning.{with_record}
+use Rattle.ocm_history_records.proofs.Counting.{asks-more, newest-short, older-short}
+use Rattle.ocm_history_records.proofs.Leaning.{with_record}
 use Rattle.ocm_history.proofs.Memories.{body-with, change-lengths, records-done}
 use Rattle.ocm_history.proofs.histories.History.lean_records.Goals as goal
 

@@ -1,11 +1,11 @@
 use Rattle.std.proofs.Common.{◌≡◌, ◌+◌, ℕ, List, Option, ap, ◌∙◌, arith, length, min, take}
 use Rattle.std.proofs.Math.Seq.{take-length}
-use Rattle.ocm_image.specs.Layout.{blocks_size}
-use Rattle.ocm_history_kept.specs.declared.kept.KeptRecord.{KeptRecord}
+use Rattle.ocm_journal_image.specs.Layout.{blocks_size}
+use Rattle.ocm_history_records.specs.declared.kept.KeptRecord.{KeptRecord}
 use Rattle.ocm_history.specs.Histories.{home_of}
-use Rattle.ocm_history_kept.specs.Kept.{asked_size, lean_asks, lean_text}
+use Rattle.ocm_history_records.specs.Kept.{asked_size, lean_asks, lean_text}
 use Rattle.ocm_history.specs.Kept.{bodies_with}
-use Rattle.ocm_history_kept.proofs.Counting.{size-more}
+use Rattle.ocm_history_records.proofs.Counting.{size-more}
 use Rattle.ocm_history.proofs.Memories.{body-with, size-done}
 use Rattle.ocm_history.proofs.histories.History.lean_size.Goals as goal
 

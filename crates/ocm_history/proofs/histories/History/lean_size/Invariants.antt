@@ -1,11 +1,11 @@
 use Rattle.std.proofs.Common.{◌≡◌, ℕ, List, take, min}
 use Rattle.ocm_entry.specs.declared.asks.Ask.{Ask}
 use Rattle.ocm_entry.specs.declared.entries.Entry.{Entry}
-use Rattle.ocm_image.specs.Layout.{blocks_size}
-use Rattle.ocm_history_kept.specs.declared.drafts.Draft.{Draft}
+use Rattle.ocm_journal_image.specs.Layout.{blocks_size}
+use Rattle.ocm_history_records.specs.declared.drafts.Draft.{Draft}
 use Rattle.ocm_history.specs.Changes.{IsChange}
 use Rattle.ocm_history.specs.Histories.{home_of}
-use Rattle.ocm_history_kept.specs.Kept.{lean_asks}
+use Rattle.ocm_history_records.specs.Kept.{lean_asks}
 use Rattle.ocm_history.specs.Kept.{bodies_with}
 use Rattle.ocm_history.proofs.histories.History.lean_size.Given as goal
 

@@ -1,5 +1,5 @@
 use Rattle.std.proofs.Common.{◌≡◌, ◌<◌, ◌+◌, length, sym, ◌∙◌, ap, arith}
-use Rattle.ocm_image.specs.Layout.{live_start}
+use Rattle.ocm_journal_image.specs.Layout.{live_start}
 use Rattle.ocm_journal.proofs.Appended.{blocks_size-push, length-record_text}
 use Rattle.ocm_journal.proofs.AppendStands.{on_ok, append_moments, append_image, append_after_fault}
 use Rattle.ocm_journal.proofs.journal.Journal.append.Goals as goal

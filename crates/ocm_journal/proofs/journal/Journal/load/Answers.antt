@@ -1,5 +1,5 @@
 use Rattle.std.proofs.Common.{◌==◌, ap, sym}
-use Rattle.ocm_image.specs.Layout.{contents}
+use Rattle.ocm_journal_image.specs.Layout.{contents}
 use Rattle.ocm_journal.specs.Openings.{new_area}
 use Rattle.ocm_journal.specs.Passing.{FailsWithDisk}
 use Rattle.ocm_journal.proofs.Begun.{begins}

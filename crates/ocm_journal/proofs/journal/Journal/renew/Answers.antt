@@ -1,6 +1,6 @@
 use Rattle.std.proofs.Common.{◌≡◌, ◌≤◌, ◌<◌, ◌+◌, ◌-◌, length, refl, sym, ◌∙◌, ap, arith}
 use Rattle.ocm_disk.specs.Disk.{Only}
-use Rattle.ocm_image.specs.Layout.{blocks_size}
+use Rattle.ocm_journal_image.specs.Layout.{blocks_size}
 use Rattle.ocm_journal.proofs.AppendStands.{on_ok, stands_with}
 use Rattle.ocm_journal.proofs.RenewStands.{length-renewed, renewal_moments, renewal_image, renewal_after_fault}
 use Rattle.ocm_journal.proofs.journal.Journal.renew.Goals as goal

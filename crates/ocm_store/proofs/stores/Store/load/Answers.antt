@@ -1,7 +1,7 @@
 use Rattle.std.proofs.Common.{◌≡◌, ◌⊎◌, ◌∙◌, List, ℕ, sym, subst}
 use Rattle.std.specs.Prelude.{IfOk}
 use Rattle.ocm_disk.specs.Disk.{LeavesOnly}
-use Rattle.ocm_image.specs.Layout.{IsLabel}
+use Rattle.ocm_journal_image.specs.Layout.{IsLabel}
 use Rattle.ocm_journal.specs.Journals as journals
 use Rattle.ocm_journal.specs.LiveAreas.{BeginsWith, HasLive, LiveArea}
 use Rattle.ocm_journal.specs.Openings.{StaysAsItOpens, new_area, opening}

@@ -1,7 +1,7 @@
 use Rattle.std.proofs.Common.{◌∙◌, ap}
 use Rattle.ocm_disk.specs.Memory.{DiskState, left_by, settled}
 use Rattle.ocm_world.proofs.Loading.{crashed-own, crashed-of, crashed-sound}
-use Rattle.ocm_world_lines.proofs.Lines.{if_ok}
+use Rattle.ocm_script_run.proofs.Lines.{if_ok}
 use Rattle.ocm_world.proofs.nodes.Node.restart.Goals as goal
 
 pub load-node-requires : goal.load-node-requires

@@ -4,8 +4,8 @@ use Rattle.std.specs.List.{insert, remove}
 use Rattle.ocm_rules.specs.Lean.{count}
 use Rattle.ocm_world.specs.declared.nodes.Node.{Node}
 use Rattle.ocm_world.specs.Running.{AreOf, IsOf}
-use Rattle.ocm_world_lines.specs.Servers.{Server, history, restart, step_at}
-use Rattle.ocm_world_lines.proofs.Worlds.{kept-found}
+use Rattle.ocm_script_run.specs.Servers.{Server, history, restart, step_at}
+use Rattle.ocm_script_run.proofs.Worlds.{kept-found}
 use Rattle.ocm_world.proofs.Worlds.{AreOf-nowhere, found-within, found_at, found_nowhere, put_again}
 use Rattle.ocm_world.proofs.servers.ServersScriptServers.crash.Goals as goal
 

@@ -1,7 +1,7 @@
 use Rattle.std.proofs.Common.{◌≡◌, List, get_or, sym, ap, ◌∙◌, subst, Some}
 use Rattle.ocm_world.specs.declared.nodes.Node.{Node}
 use Rattle.ocm_world.specs.Running.{IsOf}
-use Rattle.ocm_world_lines.specs.Servers.{Server}
+use Rattle.ocm_script_run.specs.Servers.{Server}
 use Rattle.ocm_world.proofs.Worlds.{AreOf-nowhere, found_at}
 use Rattle.ocm_world.proofs.servers.ServersScriptServers.fuse.Goals as goal
 

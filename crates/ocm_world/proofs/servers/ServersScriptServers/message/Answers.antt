@@ -1,7 +1,7 @@
 use Rattle.std.proofs.Common.{◌≡◌, List, get_or, sym, ap, ◌∙◌, subst}
 use Rattle.ocm_world.specs.declared.nodes.Node.{Node}
 use Rattle.ocm_world.specs.Running.{IsOf}
-use Rattle.ocm_world_lines.proofs.Worlds.{message-found, message-nowhere}
+use Rattle.ocm_script_run.proofs.Worlds.{message-found, message-nowhere}
 use Rattle.ocm_world.proofs.Worlds.{found_at, found_nowhere}
 use Rattle.ocm_world.proofs.servers.ServersScriptServers.message.Goals as goal
 

@@ -1,9 +1,9 @@
 use Rattle.std.proofs.Common.{◌≡◌, List, [], get_or, refl, sym, ap, ◌∙◌, subst, Option}
 use Rattle.ocm_world.specs.declared.nodes.Node.{Node}
 use Rattle.ocm_world.specs.Running.{IsOf}
-use Rattle.ocm_world_lines.specs.Servers.{Server, step_at}
-use Rattle.ocm_world_lines.specs.Transcript.{Talked}
-use Rattle.ocm_world_lines.proofs.Lines.{if_ok}
+use Rattle.ocm_script_run.specs.Servers.{Server, step_at}
+use Rattle.ocm_script_run.specs.Transcript.{Talked}
+use Rattle.ocm_script_run.proofs.Lines.{if_ok}
 use Rattle.ocm_world.proofs.Worlds.{found_at, found_nowhere}
 use Rattle.ocm_world.proofs.servers.ServersScriptServers.talk.Goals as goal
 

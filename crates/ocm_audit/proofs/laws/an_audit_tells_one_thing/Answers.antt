@@ -1,5 +1,0 @@
-use Rattle.ocm_audit.proofs.Telling.{one_told}
-use Rattle.ocm_audit.proofs.laws.an_audit_tells_one_thing.Goals as goal
-
-pub returns : goal.returns
-returns c = one_told

@@ -1,0 +1,147 @@
+//! The steps of a case.
+ghost use Rattle.std.specs.Prelude.{◌≤◌, IsTrue};
+ghost use Rattle.ocm_journal_image.specs.Layout.{AreRecords};
+
+use crate::disks::disk_told;
+use crate::pieces::bytes_of;
+use crate::places::{Place, begin, crash, fuse, load, put, taken};
+use ocm_base::{Bytes, List};
+use ocm_disk::MemDisk;
+use ocm_journal::{AppendFault, Journal, RenewFault};
+use std::alloc::Global;
+
+/// What each step of a case tells. None where a step is none, or where memory was wanting for what it tells.
+pub fn case_told(alloc: Global, case: &str) -> Option<String> {
+    let mut place = Place::Off(MemDisk::new(alloc));
+    let mut text = String::new(alloc);
+    let whole = add_each(alloc, &mut place, &mut text, case);
+    drop(place);
+    match whole {
+        Some(()) => Some(text),
+        None => {
+            drop(text);
+            None
+        }
+    }
+}
+
+fn add_each(alloc: Global, place: &mut Place, text: &mut String, case: &str) -> Option<()> {
+    for step in case.split("; ") {
+        add_step(alloc, place, text, step)?;
+    }
+    Some(())
+}
+
+fn add_step(alloc: Global, place: &mut Place, text: &mut String, step: &str) -> Option<()> {
+    if !text.is_empty() {
+        text.push_str("; ").ok()?;
+    }
+    let told = step_told(alloc, place, step)?;
+    let added = text.push_str(told.as_str());
+    drop(told);
+    added.ok()
+}
+
+fn step_told(alloc: Global, place: &mut Place, step: &str) -> Option<String> {
+    let (kind, row) = step.split_once(' ').unwrap_or((step, ""));
+    match kind {
+        "bytes" => begin(alloc, place, row),
+        "load" => load(alloc, place, row),
+        "crash" => crash(alloc, place, row),
+        "fuse" => fuse(alloc, place, row),
+        "append" | "renew" | "form" => match place {
+            Place::On(journal) => journal_step(alloc, journal, kind, row),
+            Place::Off(_) => None,
+        },
+        _ => disk_step(alloc, place, kind, row),
+    }
+}
+
+fn disk_step(alloc: Global, place: &mut Place, kind: &str, row: &str) -> Option<String> {
+    let mut disk = taken(alloc, place);
+    let told = disk_told(alloc, &mut disk, kind, row);
+    put(place, Place::Off(disk));
+    told
+}
+
+fn journal_step(
+    alloc: Global,
+    journal: &mut Journal<MemDisk>,
+    kind: &str,
+    row: &str,
+) -> Option<String> {
+    match kind {
+        "append" => append(alloc, journal, row),
+        "renew" => renew(alloc, journal, row),
+        _ => format!(in alloc; "form {}", journal.form()).ok(),
+    }
+}
+
+fn append(alloc: Global, journal: &mut Journal<MemDisk>, pieces: &str) -> Option<String> {
+    let record = bytes_of(alloc, pieces)?;
+    let told = append_bytes(alloc, journal, record.as_slice());
+    drop(record);
+    told
+}
+
+fn append_bytes(alloc: Global, journal: &mut Journal<MemDisk>, record: &[u8]) -> Option<String> {
+    let size = record.len();
+    if size == 0 || size > 2_097_152 || journal.is_stopped() {
+        return None;
+    }
+    journal.room(size as u64).ok()?;
+    match journal.append(record) {
+        Ok(()) => String::from_str(alloc, "done").ok(),
+        Err(AppendFault::Full) => String::from_str(alloc, "full").ok(),
+        Err(AppendFault::DiskFault(count)) => format!(in alloc; "disk fault {count}").ok(),
+    }
+}
+
+fn renew(alloc: Global, journal: &mut Journal<MemDisk>, row: &str) -> Option<String> {
+    let mut records = List::new(alloc);
+    let told = match add_records(alloc, &mut records, row) {
+        Some(()) => renew_by(alloc, journal, &records),
+        None => None,
+    };
+    drop(records);
+    told
+}
+
+fn add_records(alloc: Global, records: &mut List<Bytes>, row: &str) -> Option<()> {
+    for pieces in row.split(", ") {
+        records.push(bytes_of(alloc, pieces)?).ok()?;
+    }
+    Some(())
+}
+
+/// Whether each has a size that a record may have.
+fn are_records(records: &[Bytes]) -> bool
+    ensures { IsTrue result → AreRecords records.now }
+{
+    match records {
+        [] => true,
+        [first, rest @ ..] => is_record(first.len()) && are_records(rest),
+    }
+}
+
+fn is_record(size: usize) -> bool
+    ensures { IsTrue result → (1 ≤ size) × (size ≤ 2097152) }
+{
+    1 <= size && size <= 2_097_152
+}
+
+fn renew_by(
+    alloc: Global,
+    journal: &mut Journal<MemDisk>,
+    records: &List<Bytes>,
+) -> Option<String> {
+    if journal.is_stopped() || !are_records(records.as_slice()) {
+        return None;
+    }
+    match journal.renew(records) {
+        Ok(()) => String::from_str(alloc, "done").ok(),
+        Err(RenewFault::Full) => String::from_str(alloc, "full").ok(),
+        Err(RenewFault::DiskFault(count)) => format!(in alloc; "disk fault {count}").ok(),
+        Err(RenewFault::NoMemory) => String::from_str(alloc, "no memory").ok(),
+    }
+}

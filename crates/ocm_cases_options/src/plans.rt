@@ -1,0 +1,40 @@
+use ocm_serve_options::{AdminKey, Orders, PlanFault, read_plan};
+use std::alloc::Global;
+
+/// The words between blanks.
+fn words_of(alloc: Global, text: &str) -> Option<Vec<String>> {
+    let mut words = Vec::new(alloc);
+    for word in text.split(' ') {
+        let word = String::from_str(alloc, word).ok()?;
+        words.push(word).ok()?;
+    }
+    Some(words)
+}
+
+/// The orders of these words, told.
+pub fn plan_told(alloc: Global, text: &str) -> Option<String> {
+    let words = words_of(alloc, text)?;
+    let orders = read_plan(alloc, &words);
+    drop(words);
+    match orders {
+        Ok(orders) => told(alloc, &orders),
+        Err(PlanFault::Usage) => String::from_str(alloc, "usage").ok(),
+        Err(PlanFault::NoMemory) => None,
+    }
+}
+
+fn told(alloc: Global, orders: &Orders) -> Option<String> {
+    let host = orders.host.as_str();
+    let disk = orders.disk.as_str();
+    let (mark, admin) = match &orders.admin {
+        AdminKey::Key(key) => ("admin", key.as_str()),
+        AdminKey::File(path) => ("admin file", path.as_str()),
+    };
+    let listen = orders.listen.as_str();
+    let key_file = orders.key_file.as_str();
+    let workers = orders.workers;
+    let connections = orders.connections;
+    format!(in alloc;
+        "host {host} disk {disk} {mark} {admin} listen {listen} workers {workers} key file {key_file} connections {connections}"
+    ).ok()
+}

@@ -1,0 +1,132 @@
+//! Connections served alone.
+ghost use Rattle.std.specs.Prelude.{List, []};
+ghost use Rattle.ocm_entry.specs.declared.entries.Entry.{Entry};
+ghost use Rattle.ocm_store.specs.Stores.{IsLegalUnder, Stands, terms_of};
+
+use crate::stores::{host, loaded};
+use ocm_base::MemClock;
+use ocm_cases_serve_rows::{
+    Gates, Manner, OPEN, clock_of, conn_of, cut, disk_of, ended_told, rest_conn_of,
+};
+use ocm_dav::Config;
+use ocm_disk::{Disk, GateDisk};
+use ocm_server::{Conn, Draw, Ended, serve_conn};
+use ocm_store::Store;
+use ocm_turn::Turnstile;
+use ocm_types::Secret;
+use std::alloc::Global;
+use std::marker::Brand;
+use std::sync::Wait;
+
+/// What a connection comes to, `DISK; LIMIT CLOCKS PIECE FAILS ROOM; BYTES`.
+pub fn talk_told<R: Wait>(rt: &R, alloc: Global, gates: &Gates, row: &str) -> Option<String> {
+    let (disk, row) = cut(row, "; ");
+    let (words, bytes) = cut(row, "; ");
+    let (limit, words) = cut(words, " ");
+    let (clocks, words) = cut(words, " ");
+    let limit = limit.parse().ok()?;
+    let conn = conn_of(alloc, gates, OPEN, bytes, Manner::of(words)?);
+    match conn.zip(clock_of(alloc, clocks)) {
+        Some((mut conn, mut clock)) => {
+            let store = disk_of(alloc, gates, disk);
+            let ended = talked(rt, alloc, store, limit, &mut conn, &mut clock);
+            drop(clock);
+            let told = calls_told(alloc, ended, conn.sink.bytes());
+            drop(conn);
+            told
+        }
+        None => None,
+    }
+}
+
+/// The same of a connection that rests where nothing is left.
+pub fn rest_told<R: Wait>(rt: &R, alloc: Global, gates: &Gates, row: &str) -> Option<String> {
+    let (disk, row) = cut(row, "; ");
+    let (words, bytes) = cut(row, "; ");
+    let (limit, words) = cut(words, " ");
+    let (clocks, words) = cut(words, " ");
+    let limit = limit.parse().ok()?;
+    let conn = rest_conn_of(alloc, bytes, Manner::of(words)?);
+    match conn.zip(clock_of(alloc, clocks)) {
+        Some((mut conn, mut clock)) => {
+            let store = disk_of(alloc, gates, disk);
+            let ended = talked(rt, alloc, store, limit, &mut conn, &mut clock);
+            drop(clock);
+            let told = calls_told(alloc, ended, conn.sink.bytes().as_slice());
+            drop(conn);
+            told
+        }
+        None => None,
+    }
+}
+
+/// How many calls were made, how a connection ended, and what was written on it.
+fn calls_told(alloc: Global, ended: Option<(Ended, u64)>, written: &[u8]) -> Option<String> {
+    let (ended, calls) = ended?;
+    let told = ended_told(alloc, ended, written, "")?;
+    let line = format!(in alloc; "{calls} calls, {}", told.as_str());
+    drop(told);
+    line.ok()
+}
+
+fn config(alloc: Global) -> Option<Config> {
+    let admin = Secret::read(alloc, "ffffffffffffffffffffffffffffffff");
+    match host(alloc).zip(admin.ok()) {
+        Some((host, admin)) => Some(Config { host, admin }),
+        None => None,
+    }
+}
+
+/// How the connection ends at the store of a disk, and how many calls were made.
+fn talked<R: Wait, C: Conn>(
+    rt: &R,
+    alloc: Global,
+    disk: Option<GateDisk>,
+    limit: u64,
+    conn: &mut C,
+    clock: &mut MemClock,
+) -> Option<(Ended, u64)> {
+    match disk.zip(config(alloc)) {
+        Some((disk, config)) => {
+            let ended = match loaded(alloc, disk) {
+                Some(store) => talked_at(rt, alloc, &config, store, limit, conn, clock),
+                None => None,
+            };
+            drop(config);
+            ended
+        }
+        None => None,
+    }
+}
+
+fn talked_at<R: Wait, C: Conn>(
+    rt: &R,
+    alloc: Global,
+    config: &Config,
+    store: Store<GateDisk>,
+    limit: u64,
+    conn: &mut C,
+    clock: &mut MemClock,
+) -> Option<(Ended, u64)>
+    requires { (k : List Entry) × Stands ⟦<GateDisk as Disk>⟧ store k [] × IsLegalUnder (terms_of store) k [] }
+{
+    if limit < 1 || limit > 10_000 {
+        drop(store);
+        return None;
+    }
+    match Turnstile::make::<Brand>(alloc, store, limit) {
+        Ok((node, mut pass)) => {
+            let mut draw = Draw::new([0; 32], 0);
+            let ended = serve_conn(rt, alloc, config, &node, &mut pass, conn, &mut draw, clock);
+            let calls = pass.calls();
+            drop(draw);
+            drop(pass);
+            drop(node);
+            Some((ended, calls))
+        }
+        Err(store) => {
+            drop(store);
+            None
+        }
+    }
+}

@@ -1,5 +1,0 @@
-use Rattle.ocm_history_kept.proofs.Growing.{size-grows}
-use Rattle.ocm_history_kept.proofs.laws.lean_lists_grow_by_one_record.Goals as goal
-
-pub returns : goal.returns
-returns c = size-grows

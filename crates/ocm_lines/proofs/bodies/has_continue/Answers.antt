@@ -1,9 +1,0 @@
-use Rattle.std.proofs.Common.{rules, tests}
-use Rattle.std.proofs.lemmas.Iterator.Search.{any_from_yields_List}
-use Rattle.std.proofs.lemmas.Iterator.Splits.{YieldsList-from_slice_split}
-use Rattle.ocm_heads.specs.Heads.{is_comma}
-use Rattle.ocm_lines.specs.Bodies as bodies
-use Rattle.ocm_lines.proofs.bodies.has_continue.Goals as goal
-
-pub returns : goal.returns
-returns c = any_from_yields_List bodies.is_continue _ _ _ c.any.ensures.ran (YieldsList-from_slice_split _ is_comma c.args.list.now (search rules) (search rules) (search rules) (λ x r q k. search (rules, tests))) (λ x b q k. search (rules, tests))

@@ -1,0 +1,11 @@
+use Rattle.std.proofs.Common.{None, refl}
+use Rattle.ocm_server_connections.proofs.Pairing.{sends}
+use Rattle.ocm_net_adapters.proofs.conns.StreamConnConn.send.Goals as goal
+
+pub returns : goal.returns
+returns g c =
+    let w = c.write_to.ensures in
+    sends
+    (record { left = None; taken = None; read_faults = c.args.self.now.faults; write_faults = c.args.self.now.faults })
+    (record { left = None; taken = None; read_faults = c.write_to.new.sink.faults; write_faults = c.write_to.new.sink.faults })
+    c.args.piece.now c.write_to.result refl w.never_falls w.never_falls w.ok w.err w.rose

@@ -1,0 +1,160 @@
+//! The places of exchanges that are under way.
+
+use ocm_net_flights::Flight;
+use ocm_net_waits::Set;
+use std::alloc::{AllocError, Global};
+
+/// How many exchanges are under way at most.
+const MOST_SEATS: usize = 128;
+
+/// How many places are free for hosts that do not fail.
+const KEPT_FREE: usize = 32;
+
+/// How long an exchange may be under way before it may be cut for another's, in milliseconds.
+const LEAST_TIME: u64 = 1_000;
+
+/// An exchange that is under way with a host.
+pub struct Seat {
+    pub host: String,
+    pub flight: Flight,
+    /// Whether the host ever replied.
+    pub has_answered: bool,
+}
+
+impl Drop for Seat {
+    fn drop(self) {
+        let Seat {
+            host: _,
+            flight: _,
+            has_answered: _,
+        } = self;
+    }
+}
+
+impl Seat {
+    /// The host and the exchange.
+    pub fn into_parts(self) -> (String, Flight) {
+        let Seat {
+            host,
+            flight,
+            has_answered: _,
+        } = self;
+        (host, flight)
+    }
+}
+
+/// The places.
+pub struct Seats {
+    seats: Vec<Option<Box<Seat>>>,
+    taken: usize,
+}
+
+impl Drop for Seats {
+    fn drop(self) {
+        let Seats { seats: _, taken: _ } = self;
+    }
+}
+
+/// A place for one more.
+#[derive(Clone, Copy)]
+pub enum Room {
+    /// This one is free.
+    Free(usize),
+    /// This one is free once its exchange is cut.
+    Cut(usize),
+    /// None is.
+    Full,
+}
+
+impl Seats {
+    /// All places, and all of them free.
+    pub fn new(alloc: Global) -> Result<Seats, AllocError> {
+        let mut seats = Vec::with_capacity(alloc, MOST_SEATS)?;
+        for _ in 0..MOST_SEATS {
+            seats.push(None)?;
+        }
+        Ok(Seats { seats, taken: 0 })
+    }
+
+    /// A place for an exchange with a host that fails, or doesn't.
+    pub fn room(&self, is_failing: bool, now: u64) -> Room {
+        let kept = if is_failing { KEPT_FREE } else { 0 };
+        if self.taken.saturating_add(kept) < MOST_SEATS {
+            if let Some(place) = self.seats.iter().position(|seat| seat.is_none()) {
+                return Room::Free(place);
+            }
+        }
+        if is_failing {
+            return Room::Full;
+        }
+        match self.longest(now) {
+            Some(place) => Room::Cut(place),
+            None => Room::Full,
+        }
+    }
+
+    /// The exchange that is under way for longest, for a second at least, those of hosts first that never replied.
+    fn longest(&self, now: u64) -> Option<usize> {
+        let mut longest: Option<(usize, (bool, u64))> = None;
+        for (place, seat) in self.seats.iter().enumerate() {
+            if let Some(seat) = seat {
+                let start = seat.flight.start();
+                let rank = (seat.has_answered, start);
+                let is_first = match longest {
+                    Some((_, least)) => rank < least,
+                    None => true,
+                };
+                if is_first && now.saturating_sub(start) >= LEAST_TIME {
+                    longest = Some((place, rank));
+                }
+            }
+        }
+        longest.map(|(place, _)| place)
+    }
+
+    /// Puts an exchange at a place that is free.
+    pub fn put(&mut self, place: usize, seat: Box<Seat>) {
+        if let Some(free) = self.seats.get_mut(place) {
+            *free = Some(seat);
+            self.taken = self.taken.saturating_add(1);
+        }
+    }
+
+    /// The exchange at a place.
+    pub fn at(&mut self, place: usize) -> Option<&mut Seat> {
+        match self.seats.get_mut(place) {
+            Some(Some(seat)) => Some(&mut **seat),
+            _ => None,
+        }
+    }
+
+    /// Whether an exchange is under way at a place.
+    pub fn is_taken(&self, place: usize) -> bool {
+        matches!(self.seats.get(place), Some(Some(_)))
+    }
+
+    /// Takes the exchange at a place out of the set.
+    pub fn take(&mut self, place: usize, set: &Set) -> Option<Seat> {
+        let seat = self.seats.get_mut(place)?.take()?;
+        self.taken = self.taken.saturating_sub(1);
+        let mut seat = Box::into_inner(seat);
+        seat.flight.leave(set);
+        Some(seat)
+    }
+
+    /// When one of them is to be looked at again, though nothing comes, in milliseconds.
+    pub fn due(&self) -> u64 {
+        let mut due = u64::MAX;
+        for seat in self.seats.iter() {
+            if let Some(seat) = seat {
+                due = due.min(seat.flight.due());
+            }
+        }
+        due
+    }
+
+    /// How many places there are.
+    pub fn len(&self) -> usize {
+        self.seats.len()
+    }
+}

@@ -1,0 +1,302 @@
+//! What one delivering worker knows: the exchanges that are under way, the replies that wait for it, what is known of
+//! hosts, and when its next round is due.
+
+use crate::hosts::{HostNote, Hosts, Noted};
+use crate::keeps::Keeps;
+use crate::names::Names;
+use crate::seats::{Room, Seat, Seats};
+use crate::turns::Turns;
+use ocm_base::{Bytes, and};
+use ocm_net_flights::{Addresses, ExchangeFault, Flight, Limits, Lookup, Lookups, Step};
+use ocm_net_waits::Set;
+use std::alloc::{AllocError, Global};
+use std::net::Net;
+use std::thread::Threads;
+
+/// The most bytes of a reply to a delivery.
+const MOST_REPLY: usize = 65_536;
+
+/// How long an exchange may take with a host that replied before, in milliseconds.
+const KNOWN_TIME: u64 = 20_000;
+
+/// How long an exchange may take with any other host, in milliseconds.
+const UNKNOWN_TIME: u64 = 5_000;
+
+/// How many bytes one read takes.
+const PIECE: usize = 16_384;
+
+/// How long it is to the next try where there is no room, in milliseconds.
+const NO_ROOM: u64 = 1_000;
+
+/// How many notes wait to be told at most.
+pub const MOST_NOTES: usize = 64;
+
+/// The table.
+pub struct Table {
+    seats: Seats,
+    hosts: Hosts,
+    keeps: Keeps,
+    names: Names,
+    piece: Vec<u8>,
+    notes: Vec<HostNote>,
+    /// Whether the last request got a reply.
+    has_replied: bool,
+    /// The place of the exchange that this round waits for, behind which none has to follow.
+    awaited: Option<usize>,
+    /// When rounds are due.
+    pub turns: Turns,
+}
+
+impl Drop for Table {
+    fn drop(self) {
+        let Table {
+            seats: _,
+            hosts: _,
+            keeps: _,
+            names: _,
+            piece: _,
+            notes: _,
+            has_replied: _,
+            awaited: _,
+            turns: _,
+        } = self;
+    }
+}
+
+/// How far an exchange may go with a host.
+fn limits_for(noted: Noted) -> Limits {
+    Limits {
+        most: MOST_REPLY,
+        whole: if noted.has_answered {
+            KNOWN_TIME
+        } else {
+            UNKNOWN_TIME
+        },
+        is_by_rate: false,
+    }
+}
+
+/// An exchange at its place.
+fn seated(
+    alloc: Global,
+    host: &str,
+    request: &Bytes,
+    noted: Noted,
+    now: u64,
+    found: (Option<Lookup>, Addresses),
+) -> Result<Box<Seat>, ExchangeFault> {
+    let (lookup, addresses) = found;
+    let host = String::from_str(alloc, host)?;
+    let request = request.copy()?;
+    let flight = Flight::new(request, limits_for(noted), now, lookup, addresses);
+    let seat = Seat {
+        host,
+        flight,
+        has_answered: noted.has_answered,
+    };
+    match Box::new(alloc, seat) {
+        Ok(seat) => Ok(seat),
+        Err(_) => Err(ExchangeFault::NoMemory),
+    }
+}
+
+impl Table {
+    /// A table of nothing.
+    pub fn new(alloc: Global, lookups: Lookups) -> Result<Table, AllocError> {
+        let piece = Vec::from_elem(alloc, 0u8, PIECE)?;
+        let (seats, keeps) = and(Seats::new(alloc)?, Keeps::new(alloc))?;
+        Ok(Table {
+            seats,
+            hosts: Hosts::new(alloc),
+            keeps,
+            names: Names::new(alloc, lookups),
+            piece,
+            notes: Vec::new(alloc),
+            has_replied: false,
+            awaited: None,
+            turns: Turns::new(),
+        })
+    }
+
+    /// The reply of a host to these bytes, where one is kept and the host is not left alone.
+    pub fn take(
+        &mut self,
+        host: &str,
+        request: &[u8],
+        now: u64,
+    ) -> Result<Option<Bytes>, ExchangeFault> {
+        self.awaited = None;
+        self.has_replied = false;
+        let found = self.keeps.take(host, request, now)?;
+        self.has_replied = found.is_some();
+        Ok(found)
+    }
+
+    /// Begins an exchange with a host that is not left alone, where there is room. Answers the place at which it is
+    /// waited for.
+    pub fn begin<R: Threads + Net>(
+        &mut self,
+        rt: &R,
+        alloc: Global,
+        set: &Set,
+        host: &str,
+        request: &Bytes,
+        now: u64,
+    ) -> Result<Option<usize>, ExchangeFault> {
+        let noted = self.hosts.at(host);
+        if noted.is_tried {
+            return Ok(None);
+        }
+        if now < noted.until {
+            self.turns.call_at(noted.until);
+            return Ok(None);
+        }
+        let Some(place) = self.place_for(alloc, set, noted, now) else {
+            self.turns.call_at(now.saturating_add(NO_ROOM));
+            return Ok(None);
+        };
+        let Some(found) = self.names.find(rt, alloc, host, now) else {
+            self.turns.call_at(now.saturating_add(NO_ROOM));
+            return Ok(None);
+        };
+        match seated(alloc, host, request, noted, now, found) {
+            Ok(seat) => {
+                self.hosts.begin(alloc, host);
+                self.seats.put(place, seat);
+                self.awaited = Some(place);
+                self.launch(alloc, set, place, now);
+                self.awaited = (!noted.is_failing()).then_some(place);
+                Ok(self.awaited)
+            }
+            Err(fault) => {
+                self.turns.call_at(now.saturating_add(NO_ROOM));
+                Err(fault)
+            }
+        }
+    }
+
+    /// A place for an exchange, for which another's may be cut.
+    fn place_for(&mut self, alloc: Global, set: &Set, noted: Noted, now: u64) -> Option<usize> {
+        match self.seats.room(noted.is_failing(), now) {
+            Room::Free(place) => Some(place),
+            Room::Cut(place) => {
+                self.end(alloc, set, place, Step::Failed, now);
+                Some(place)
+            }
+            Room::Full => None,
+        }
+    }
+
+    /// Begins the exchange at a place.
+    fn launch(&mut self, alloc: Global, set: &Set, place: usize, now: u64) {
+        let Some(seat) = self.seats.at(place) else {
+            return;
+        };
+        let step = seat.flight.begin(alloc, set, place as u64, now);
+        if step != Step::Waits {
+            self.end(alloc, set, place, step, now);
+        }
+    }
+
+    /// Goes on with the exchange at a place, of which the system told something.
+    pub fn step(&mut self, alloc: Global, set: &Set, place: usize, now: u64) {
+        let Some(seat) = self.seats.at(place) else {
+            return;
+        };
+        let step = seat
+            .flight
+            .step(alloc, set, place as u64, now, &mut self.piece);
+        if step != Step::Waits {
+            self.end(alloc, set, place, step, now);
+        }
+    }
+
+    /// Ends the exchanges whose time is up.
+    pub fn expire(&mut self, alloc: Global, set: &Set, now: u64) {
+        for place in 0..self.seats.len() {
+            if let Some(seat) = self.seats.at(place) {
+                let step = seat.flight.expire(alloc, set, place as u64, now);
+                if step != Step::Waits {
+                    self.end(alloc, set, place, step, now);
+                }
+            }
+        }
+    }
+
+    /// Ends the exchange at a place: its reply is kept, or its host is left alone for a while. Where there was no memory for
+    /// the reply, which is no fault of the host, a message is posted again; hosts take one that they had before.
+    fn end(&mut self, alloc: Global, set: &Set, place: usize, step: Step, now: u64) {
+        let Some(seat) = self.seats.take(place, set) else {
+            return;
+        };
+        let (host, flight) = seat.into_parts();
+        let addresses = flight.addresses();
+        let (request, came) = flight.into_ended(step);
+        if self.awaited != Some(place) {
+            self.turns.call();
+        }
+        match came {
+            Ok(reply) => {
+                self.hosts.end(alloc, host.as_str(), true);
+                self.names.keep(alloc, host.as_str(), addresses, now);
+                let _ = self.keeps.put(host, request, reply, now);
+            }
+            Err(ExchangeFault::NoMemory) => {
+                self.hosts.end(alloc, host.as_str(), false);
+                self.hosts
+                    .rest(alloc, host.as_str(), now.saturating_add(NO_ROOM));
+            }
+            Err(ExchangeFault::Failed) => {
+                self.hosts.end(alloc, host.as_str(), false);
+                self.names.forget(host.as_str());
+                self.fail(alloc, host.as_str(), now);
+            }
+        }
+    }
+
+    /// Leaves a host alone for a while.
+    fn fail(&mut self, alloc: Global, host: &str, now: u64) {
+        self.keeps.forget(host);
+        let note = self.hosts.fail(alloc, host, now);
+        self.note(note);
+        self.turns.call_at(self.hosts.at(host).until);
+    }
+
+    /// Puts a note behind those that are to be told, where there is room.
+    fn note(&mut self, note: Option<HostNote>) {
+        if let Some(note) = note {
+            if self.notes.len() < MOST_NOTES {
+                let _ = self.notes.push(note);
+            }
+        }
+    }
+
+    /// Whether an exchange is under way at a place.
+    pub fn is_going(&self, place: usize) -> bool {
+        self.seats.is_taken(place)
+    }
+
+    /// Notes whether what came back of a delivery to a host settles its message. Where the host was not asked, or did
+    /// not reply yet, that says nothing of it.
+    pub fn came(&mut self, alloc: Global, host: &str, settles: bool, now: u64) {
+        self.turns.count();
+        if settles {
+            self.turns.call();
+            let note = self.hosts.succeed(alloc, host);
+            self.note(note);
+        } else if self.has_replied {
+            self.fail(alloc, host, now);
+        }
+        self.has_replied = false;
+    }
+
+    /// When one of the exchanges is to be looked at again, though nothing comes, in milliseconds.
+    pub fn due(&self) -> u64 {
+        self.seats.due()
+    }
+
+    /// A note that is to be told.
+    pub fn take_note(&mut self) -> Option<HostNote> {
+        self.notes.pop()
+    }
+}

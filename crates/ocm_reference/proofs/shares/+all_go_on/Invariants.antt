@@ -1,5 +1,0 @@
-use Rattle.std.proofs.Common.{length}
-use Rattle.ocm_reference.proofs.shares.+all_go_on.Given as goal
-
-abbrev pub decreases-all_go_on : goal.decreases-all_go_on
-decreases-all_go_on l = length l.shares.now

@@ -1,0 +1,113 @@
+ghost use Rattle.std.specs.Prelude.{◌≡◌};
+ghost use Rattle.ocm_serve_options.specs.Plans.{plan_with};
+
+use ocm_base::Text;
+use ocm_types::{Host, Secret};
+
+/// What a running server is to be.
+pub struct Plan {
+    /// The host whose server it is.
+    pub host: Host,
+    /// The file that is its disk.
+    pub disk: Text,
+    /// The key by which users are made.
+    pub admin: Secret,
+    /// The address that it listens on.
+    pub listen: Text,
+    /// How many workers serve connections: 1 to 64.
+    pub workers: u32,
+    /// The file that gives the key of all drawn values.
+    pub key_file: Text,
+    /// How many connections each worker serves, 0 for no end.
+    pub connections: u64,
+}
+
+impl Drop for Plan {
+    fn drop(self) {
+        let Plan {
+            host: _,
+            disk: _,
+            admin: _,
+            listen: _,
+            workers: _,
+            key_file: _,
+            connections: _,
+        } = self;
+    }
+}
+
+/// The key by which users are made, or where it is to be read.
+#[derive(Drop)]
+pub enum AdminKey {
+    /// The key.
+    Key(Secret),
+    /// The path of a file that holds the key.
+    File(Text),
+}
+
+/// What the words of a command line order: a plan, but that the administrator's key may be in a file.
+pub struct Orders {
+    /// The host whose server it is.
+    pub host: Host,
+    /// The file that is its disk.
+    pub disk: Text,
+    /// The key by which users are made, or the file that holds it.
+    pub admin: AdminKey,
+    /// The address that it listens on.
+    pub listen: Text,
+    /// How many workers serve connections: 1 to 64.
+    pub workers: u32,
+    /// The file that gives the key of all drawn values.
+    pub key_file: Text,
+    /// How many connections each worker serves, 0 for no end.
+    pub connections: u64,
+}
+
+impl Drop for Orders {
+    fn drop(self) {
+        let Orders {
+            host: _,
+            disk: _,
+            admin: _,
+            listen: _,
+            workers: _,
+            key_file: _,
+            connections: _,
+        } = self;
+    }
+}
+
+impl Orders {
+    /// The plan of these orders with the administrator's key.
+    pub fn plan(self, admin: Secret) -> Plan
+        ensures { result ≡ plan_with self admin }
+    {
+        let Orders {
+            host,
+            disk,
+            admin: _,
+            listen,
+            workers,
+            key_file,
+            connections,
+        } = self;
+        Plan {
+            host,
+            disk,
+            admin,
+            listen,
+            workers,
+            key_file,
+            connections,
+        }
+    }
+}
+
+/// Why there are no orders.
+#[derive(Clone, Copy, Debug, PartialEq, Eq)]
+pub enum PlanFault {
+    /// The words are none of this command.
+    Usage,
+    /// There was no memory. The words may be sound.
+    NoMemory,
+}

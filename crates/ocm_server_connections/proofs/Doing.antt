@@ -1,0 +1,64 @@
+-- One deed after another.
+use Rattle.std.proofs.Common.{◌≡◌, ℕ, ◌+◌, ◌≤◌, ◌++◌, List, [], ◌∷◌, Option, Some, None, sym, refl, ap, subst, append-nil, arith}
+use Rattle.std.specs.Prelude.{map}
+use Rattle.std.proofs.lemmas.List.{map-append}
+use Rattle.rand_chacha.specs.ChaCha.{ChaCha}
+use Rattle.ocm_base.specs.Outside.{Appends, Takes}
+use Rattle.ocm_base.proofs.Pieces.{Appends-twice, Takes-twice}
+use Rattle.ocm_entry.specs.declared.entries.Entry.{Entry}
+use Rattle.ocm_turn.specs.declared.view.Call.{Call}
+use Rattle.ocm_turn.specs.Calls.{IsOlderPart, entries}
+use Rattle.ocm_turn.specs.Passes.{Known, SameGround}
+use Rattle.ocm_server_connections.specs.Drawing.{Draws, moved}
+use Rattle.ocm_turn.proofs.MoveLemmas.{moved_nothing, moved_then}
+use Rattle.ocm_server_connections.specs.Sides.{Sides}
+use Rattle.ocm_server_connections.specs.Parts.{State, Deeds, Does}
+
+pub takes_nothing : (a : Option (List ℕ)) → Takes a a []
+takes_nothing (Some rest) = refl
+takes_nothing None = refl
+
+pub appends_nothing : (a : Option (List ℕ)) → Appends a a []
+appends_nothing (Some held) = ap Some (sym (append-nil held))
+appends_nothing None = refl
+
+pub draws_then : (g h k : ChaCha) (x y : List (List ℕ)) → Draws g x h → Draws h y k → Draws g (x ++ y) k
+draws_then g h k [] y p q = subst (λ (z : ChaCha). Draws z y k) p q
+draws_then g h k (fresh ∷ x) y p q = (p.0, draws_then (moved g) h k x y p.1 q)
+
+-- no deeds
+abbrev pub nothing : Deeds
+nothing = record { read = []; drawn = []; clocks = []; calls = []; written = [] }
+
+-- deeds, and then others
+abbrev pub both : Deeds → Deeds → Deeds
+both x y = record {
+  read = x.read ++ y.read;
+  drawn = x.drawn ++ y.drawn;
+  clocks = x.clocks ++ y.clocks;
+  calls = y.calls ++ x.calls;
+  written = x.written ++ y.written;
+}
+
+module _ {Terms : Type 0} where
+  pub does_nothing : (a : State Terms) → Does a a nothing
+  does_nothing a = record {
+    read = takes_nothing a.sides.left;
+    written = appends_nothing a.sides.taken;
+    read_faults = omega arith;
+    write_faults = omega arith;
+    drawn = refl;
+    clocks = appends_nothing a.clock;
+    calls = moved_nothing a.pass;
+  }
+
+  pub does_then : (a b c : State Terms) (x y : Deeds) → Does a b x → Does b c y → Does a c (both x y)
+  does_then a b c x y p q = record {
+    read = Takes-twice a.sides.left b.sides.left c.sides.left x.read y.read p.read q.read;
+    written = Appends-twice a.sides.taken b.sides.taken c.sides.taken x.written y.written p.written q.written;
+    read_faults = omega (arith, p.read_faults, q.read_faults);
+    write_faults = omega (arith, p.write_faults, q.write_faults);
+    drawn = draws_then a.draw b.draw c.draw x.drawn y.drawn p.drawn q.drawn;
+    clocks = Appends-twice a.clock b.clock c.clock x.clocks y.clocks p.clocks q.clocks;
+    calls = moved_then a.pass b.pass c.pass x.calls y.calls p.calls q.calls;
+  }

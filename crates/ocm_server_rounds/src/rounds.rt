@@ -1,0 +1,162 @@
+//! A round of delivery.
+
+ghost use Rattle.std.specs.Prelude.{◌≡◌, ◌≢◌, ◌+◌, ◌<◌, ◌≤◌, ℕ, [], ◌∷◌, ◌++◌, min, IsTrue};
+ghost use Rattle.ocm_turn.specs.Passes.{BelongsTo};
+ghost use Rattle.ocm_server_rounds.specs.Rounds as rounds;
+ghost use Rattle.ocm_server_rounds.specs.Rounds.{Delivered, Answers, Rounded, counted, hold, one_if};
+
+use crate::pumped::{Pumped, RoundEnd};
+use crate::settling::{ask_node, is_no_memory, try_message};
+use ocm_entry::{Ask, Object, Reply};
+use ocm_pump::Dial;
+use ocm_turn::{Pass, Turnstile};
+use ocm_types::Numbered;
+use std::alloc::Global;
+use std::sync::Wait;
+
+/// A count that stands still at its type's end.
+fn count_of(number: usize) -> u32
+    ensures { result ≡ counted number }
+{
+    if number < u32::MAX as usize {
+        number as u32
+    } else {
+        u32::MAX
+    }
+}
+
+/// The count with one more, where a settlement was made.
+fn count_if(count: u32, settled: bool) -> u32
+    ensures { result ≡ counted (count + one_if settled) }
+{
+    if settled {
+        count.saturating_add(1)
+    } else {
+        count
+    }
+}
+
+fn is_whole(end: RoundEnd) -> bool
+    ensures { result ≡ rounds.is_whole end }
+{
+    match end {
+        RoundEnd::Whole => true,
+        RoundEnd::Spent => false,
+        RoundEnd::NoMemory => false,
+    }
+}
+
+/// The messages of a reply.
+fn messages_of(reply: &Reply) -> &[Numbered]
+    ensures { result.now ≡ rounds.messages_of reply.now }
+{
+    match reply {
+        Reply::Due { messages } => messages.as_slice(),
+        _ => &[],
+    }
+}
+
+/// How far messages were delivered.
+#[derive(Clone, Copy)]
+struct Passed {
+    answered: u32,
+    end: RoundEnd,
+}
+
+/// Delivers messages one after another, up to the first that stops the round.
+fn deliver_all<T: Object, N: Dial, R: Wait>(
+    rt: &R,
+    alloc: Global,
+    node: &Turnstile<T>,
+    pass: &mut Pass<T>,
+    dial: &mut N,
+    messages: &[Numbered],
+) -> Passed
+    requires own { BelongsTo node.now pass.old }
+    requires below { pass.old.drawn < node.now.limit }
+    ensures delivered { (settled : ℕ) × (result.answered ≡ counted settled)
+        × Delivered messages.now (hold pass.old (N.exchanges dial.old)) (hold pass.new (N.exchanges dial.new)) settled result.end }
+    ensures spent { result.end ≡ RoundEnd.Spent → node.now.limit ≤ pass.new.drawn }
+    ensures below { result.end ≢ RoundEnd.Spent → pass.new.drawn < node.now.limit }
+    ensures own { BelongsTo node.now pass.new }
+    ensures never_falls { N.faults dial.old ≤ N.faults dial.new }
+    ensures kind { N.delivers dial.new ≡ N.delivers dial.old }
+{
+    let mut answered = 0;
+    for message in messages {
+        let trial = try_message(rt, alloc, node, pass, dial, message);
+        answered = count_if(answered, trial.settled);
+        if !is_whole(trial.end) {
+            return Passed {
+                answered,
+                end: trial.end,
+            };
+        }
+    }
+    Passed {
+        answered,
+        end: RoundEnd::Whole,
+    }
+}
+
+/// What a round comes to by the reply to the question for messages that are due.
+fn answer_due<T: Object, N: Dial, R: Wait>(
+    rt: &R,
+    alloc: Global,
+    node: &Turnstile<T>,
+    pass: &mut Pass<T>,
+    dial: &mut N,
+    reply: &Reply,
+) -> Pumped
+    requires own { BelongsTo node.now pass.old }
+    requires below { pass.old.drawn < node.now.limit }
+    ensures answers { Answers reply.now (hold pass.old (N.exchanges dial.old)) (hold pass.new (N.exchanges dial.new)) result }
+    ensures spent { result.end ≡ RoundEnd.Spent → node.now.limit ≤ pass.new.drawn }
+    ensures below { result.end ≢ RoundEnd.Spent → pass.new.drawn < node.now.limit }
+    ensures own { BelongsTo node.now pass.new }
+    ensures never_falls { N.faults dial.old ≤ N.faults dial.new }
+    ensures kind { N.delivers dial.new ≡ N.delivers dial.old }
+{
+    if is_no_memory(reply) {
+        return Pumped {
+            tried: 0,
+            answered: 0,
+            end: RoundEnd::NoMemory,
+        };
+    }
+    let messages = messages_of(reply);
+    let passed = deliver_all(rt, alloc, node, pass, dial, messages);
+    Pumped {
+        tried: count_of(messages.len()),
+        answered: passed.answered,
+        end: passed.end,
+    }
+}
+
+/// Makes one round of delivery: asks for the messages that are due, delivers them one after another, and settles each by
+/// what came back. A message without an answer stays due. The round stops at the turnstile's limit, and where there is no
+/// memory. It waits for its turns, and its return is not promised.
+pub fn pump_round<T: Object, N: Dial, R: Wait>(
+    rt: &R,
+    alloc: Global,
+    node: &Turnstile<T>,
+    pass: &mut Pass<T>,
+    dial: &mut N,
+) -> Pumped
+    requires own { BelongsTo node.now pass.old }
+    ensures round { Rounded (hold pass.old (N.exchanges dial.old)) (hold pass.new (N.exchanges dial.new)) result }
+    ensures spent { result.end ≡ RoundEnd.Spent → node.now.limit ≤ pass.new.drawn }
+    ensures below { result.end ≢ RoundEnd.Spent → pass.new.drawn < node.now.limit }
+    ensures own { BelongsTo node.now pass.new }
+    ensures never_falls { N.faults dial.old ≤ N.faults dial.new }
+    ensures kind { N.delivers dial.new ≡ N.delivers dial.old }
+{
+    match ask_node(rt, node, pass, Ask::Due) {
+        Ok(reply) => answer_due(rt, alloc, node, pass, dial, &reply),
+        Err(_) => Pumped {
+            tried: 0,
+            answered: 0,
+            end: RoundEnd::Spent,
+        },
+    }
+}

@@ -1,5 +1,0 @@
-use Rattle.ocm_world_lines.proofs.Lines.{Runs-still, if_ok}
-use Rattle.ocm_world_lines.proofs.runs.fuse.Goals as goal
-
-pub returns : goal.returns
-returns g c = if_ok c.line_text.result (λ text e world are. rw e (Runs-still g.S.ScriptServers.stand c.fuse.new.self _ _ (c.fuse.ensures world are))) c.line_text.ensures

@@ -1,4 +1,0 @@
-use Rattle.ocm_world_lines.proofs.talks.answer_of.Goals as goal
-
-pub returns : goal.returns
-returns g c = c.answer-lines.ensures
