@@ -11,7 +11,7 @@ use Rattle.ocm_path.specs.declared.faults.PathFault.{PathFault}
 use Rattle.ocm_path.specs.declared.faults.PathFault.TheVariants.{EmptySegment, TooLong}
 use Rattle.ocm_entry.specs.Proper.{is_short}
 use Rattle.ocm_davmore.specs.declared.faults.DestinationFault.TheVariants.{OtherServer}
-use Rattle.ocm_davmore.specs.Destinations.{begins_with_slash, before_query, is_ours, below_dav, path_read, rest_destination, path_destination, address_destination, text_destination, destination_of}
+use Rattle.ocm_davmore.specs.Destinations.{begins_with_slash, before_query, is_ours, below_dav, path_read, rest_destination, path_destination, address_destination, text_destination, fault_without_text, destination_of}
 
 -- a path that was read is short
 abbrev pub IsShortRead : {F : Type 0} → Result Segments F → Type 0
@@ -73,4 +73,4 @@ text ours bytes =
 
 -- the path that a destination names is short
 pub short-destination_of : (ours value : List ℕ) → IsShortRead (destination_of ours value)
-short-destination_of ours value = one_of (is_utf8 value) (text_destination ours value) (Err OtherServer) (text ours value) tt
+short-destination_of ours value = one_of (is_utf8 value) (text_destination ours value) (Err (fault_without_text value)) (text ours value) tt

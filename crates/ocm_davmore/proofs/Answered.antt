@@ -7,15 +7,15 @@ use Rattle.std.proofs.lemmas.Str.{is_utf8-from_IsUtf8, IsUtf8-from_is_utf8}
 use Rattle.ocm_path.specs.Paths.{Segments}
 use Rattle.ocm_davmore.specs.declared.faults.DestinationFault.{DestinationFault}
 use Rattle.ocm_davmore.specs.declared.faults.DestinationFault.TheVariants.{OtherServer, BadPath, NoMemory}
-use Rattle.ocm_davmore.specs.Destinations.{text_destination, destination_of, Gives}
+use Rattle.ocm_davmore.specs.Destinations.{text_destination, fault_without_text, destination_of, Gives}
 
 -- a value that is a text is read as it
 pub destination-text : (ours value text : List ℕ) → text ≡ value → IsUtf8 value → text_destination ours text ≡ destination_of ours value
 destination-text ours value text same utf8 =
     ap (text_destination ours) same ∙ sym (cond-true _ _ _ (is_utf8-from_IsUtf8 value utf8))
 
--- a value that is none names another server
-pub destination-no_text : (ours value : List ℕ) → ¬ IsUtf8 value → destination_of ours value ≡ Err OtherServer
+-- a value that is none is refused by its first bytes
+pub destination-no_text : (ours value : List ℕ) → ¬ IsUtf8 value → destination_of ours value ≡ Err (fault_without_text value)
 destination-no_text ours value none =
     cond-false _ _ _ (false_from_ne_true _ (λ e. none (IsUtf8-from_is_utf8 value e)))
 

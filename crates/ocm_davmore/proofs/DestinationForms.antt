@@ -25,7 +25,7 @@ use Rattle.ocm_path.proofs.Joining.{is_root-cons}
 use Rattle.ocm_path.proofs.RoundTrip.{path_of-path_escaped}
 use Rattle.ocm_davmore.specs.declared.faults.DestinationFault.{DestinationFault}
 use Rattle.ocm_davmore.specs.declared.faults.DestinationFault.TheVariants.{OtherServer}
-use Rattle.ocm_davmore.specs.Destinations.{begins_with_slash, before_query, is_web, is_ours, is_rest, below_dav, path_read, rest_destination, path_destination, address_destination, text_destination, destination_of}
+use Rattle.ocm_davmore.specs.Destinations.{fault_without_text, begins_with_slash, before_query, is_web, is_ours, is_rest, below_dav, path_read, rest_destination, path_destination, address_destination, text_destination, destination_of}
 
 -- ---- the bytes of an escaped path
 
@@ -128,7 +128,7 @@ query_reads_back ours path query sound short text =
 pub two_slashes : (ours rest : List ℕ) → destination_of ours (codes "//" ++ rest) ≡ Err OtherServer
 two_slashes ours rest =
     let text : List ℕ = codes "//" ++ rest in
-    cond_both (is_utf8 text) (text_destination ours text) (Err OtherServer) (λ (r : Result Segments DestinationFault). r ≡ Err OtherServer)
+    cond_both (is_utf8 text) (text_destination ours text) (Err (fault_without_text text)) (λ (r : Result Segments DestinationFault). r ≡ Err OtherServer)
     (λ _. ap (λ (o : Option (List ℕ)). rest_destination (option_and_then (λ x. cond (is_rest x) (Some x) None) o)) (after_front-none (codes "/dav") (before_query text) (λ x e. let same : 47 ∷ 47 ∷ (cut_at_first 63 rest).0 ≡ 47 ∷ 100 ∷ 97 ∷ 118 ∷ x = e in absurd cc)))
     (λ _. refl)
 

@@ -83,9 +83,13 @@ text_destination ours text =
     if begins_with_slash text then path_destination (before_query text)
     else address_destination ours (parse_url None text)
 
+-- why a value that is not UTF-8 names no path: below our `/dav/` its path is no text, and anything else is another server's
+abbrev pub fault_without_text : List ℕ → DestinationFault
+fault_without_text value = option_map_or (λ _. BadPath path_faults.NotText) (after_front (codes "/dav/") value) OtherServer
+
 -- the path below our `/dav` that the value of a destination names, or why it names none
 abbrev pub destination_of : List ℕ → List ℕ → Result Segments DestinationFault
-destination_of ours value = if is_utf8 value then text_destination ours value else Err OtherServer
+destination_of ours value = if is_utf8 value then text_destination ours value else Err (fault_without_text value)
 
 -- what was answered is what a reading gives, with no path of more than 1,024 bytes; want of memory may come at
 -- any value

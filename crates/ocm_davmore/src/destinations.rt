@@ -17,7 +17,8 @@ use url::{ParseError, Url};
 /// Reads the value of a `Destination` (RFC 4918 section 10.3) at the server with this host: the path
 /// below its `/dav`.
 ///
-/// What begins with `/` is a path, up to its first `?`. Anything else is an address of `http` or
+/// What begins with `/` is a path, up to its first `?`. A value that is not UTF-8 has a path that is no text where it
+/// begins with `/dav/`, and names another server else. Anything else is an address of `http` or
 /// `https`, as the URL Standard reads it, whose host and port have to be this server's; a user name
 /// and a password are passed over. The path has to be `/dav` or to begin with `/dav/`.
 pub fn read_destination(alloc: Global, value: &[u8], host: &Host) -> Result<Path, DestinationFault>
@@ -30,7 +31,18 @@ pub fn read_destination(alloc: Global, value: &[u8], host: &Host) -> Result<Path
 {
     match str::from_utf8(value) {
         Ok(text) => read_text(alloc, text, host),
-        Err(_) => Err(DestinationFault::OtherServer),
+        Err(_) => Err(fault_without_text(value)),
+    }
+}
+
+/// Why a value that is not UTF-8 names no path: its path is no text where it begins with `/dav/`, and else it is
+/// another server's.
+fn fault_without_text(value: &[u8]) -> DestinationFault
+    ensures { result ≡ destinations.fault_without_text value.now }
+{
+    match value.strip_prefix(b"/dav/") {
+        Some(_) => DestinationFault::BadPath(PathFault::NotText),
+        None => DestinationFault::OtherServer,
     }
 }
 

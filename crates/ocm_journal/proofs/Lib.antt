@@ -11,4 +11,5 @@ pub mod OfBlank
 pub mod OpenedImage
 pub mod Passing
 pub mod RenewStands
+pub mod Shut
 pub mod Renewed

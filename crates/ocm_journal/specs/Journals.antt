@@ -1,9 +1,9 @@
 -- What a journal stands for.
-use Rattle.std.specs.Prelude.{replicate, ◌≡◌, ◌<◌, ◌≤◌, ◌⊎◌, ◌==◌, ℕ, ◌+◌, List, [], ◌∷◌, ◌++◌, length, slice_index, Bool, true, vec_capacity}
+use Rattle.std.specs.Prelude.{replicate, ◌≡◌, ◌<◌, ◌≤◌, ◌⊎◌, ◌==◌, ℕ, ◌+◌, List, [], ◌∷◌, ◌++◌, length, slice_index, if◌then◌else◌, Bool, true, vec_capacity}
 use Rattle.std.specs.Int.{w32, to_be_bytes}
 use Rattle.ocm_disk.specs.Disk.{Only}
 use Rattle.ocm_disk.specs.declared.disk.Disk.{Ghosts}
-use Rattle.ocm_journal_image.specs.Layout.{IsImage, blocks_size, area_text, live_start}
+use Rattle.ocm_journal_image.specs.Layout.{HoldsAt, IsImage, blocks_size, area_text, live_start}
 use Rattle.ocm_journal.specs.declared.journal.Journal.{Journal}
 
 -- whether the first area is live by the selector byte
@@ -53,6 +53,14 @@ first_is_live journal = journal.start == 512
 -- whether a disk call of an earlier append or renewal has failed
 abbrev pub IsStopped : {D : Type 0} {disk : Ghosts D} → Journal D disk → Type 0
 IsStopped journal = journal.stopped ≡ true
+
+-- the byte in place of a further gate is 00
+abbrev pub IsShut : {D : Type 0} (disk : Ghosts D) → Journal D disk → Type 0
+IsShut disk journal = HoldsAt (disk.seen journal.disk) journal.gate (0 ∷ [])
+
+-- the selector byte is 01 where the first area is live, and else 02
+abbrev pub IsSelected : {D : Type 0} (disk : Ghosts D) → Journal D disk → Type 0
+IsSelected disk journal = HoldsAt (disk.seen journal.disk) journal.selector ((if first_is_live journal then 1 else 2) ∷ [])
 
 -- a record of so many bytes passes the end of the live area
 abbrev pub IsFullFor : {D : Type 0} {disk : Ghosts D} → Journal D disk → ℕ → Type 0

@@ -4,7 +4,7 @@ ghost use Rattle.ocm_base.specs.Outside.{raised};
 ghost use Rattle.ocm_disk.specs.Disk.{LeavesOnly};
 ghost use Rattle.ocm_journal.specs.AfterFaults.{AfterFault};
 ghost use Rattle.ocm_journal.specs.Faults.{HasCount, stops};
-ghost use Rattle.ocm_journal.specs.Journals.{record_text, IsBeforeOrAfter, IsImageWith, disk_of, first_is_live, IsFullFor, IsStopped, HasRoom, SameShape, StandsFor};
+ghost use Rattle.ocm_journal.specs.Journals.{record_text, IsBeforeOrAfter, IsImageWith, disk_of, first_is_live, IsFullFor, IsStopped, HasRoom, IsShut, SameShape, StandsFor};
 
 use crate::journal::Journal;
 use crate::steps::put_behind;
@@ -73,6 +73,9 @@ impl<D: Disk> Journal<D> {
         requires goes { self.old.stopped ≡ false }
         ensures acknowledged { D.tells → (label : List ℕ) (records : List (List ℕ)) → StandsFor ⟦<D as Disk>⟧ label records self.old
             → OnOk result (StandsFor ⟦<D as Disk>⟧ label (records ++ bytes.now ∷ []) self.new) }
+
+        // The gate behind the record is closed by 00.
+        ensures shut { D.tells → OnOk result (IsShut ⟦<D as Disk>⟧ self.new) }
 
         // A crash at any moment of the call leaves an image of the records from before it, with the new one or without.
         ensures any_moment { D.tells → (label : List ℕ) (records : List (List ℕ)) → StandsFor ⟦<D as Disk>⟧ label records self.old

@@ -3,7 +3,7 @@ ghost use Rattle.ocm_disk.specs.Disk.{LeavesOnly};
 ghost use Rattle.ocm_journal_image.specs.Layout.{AreRecords, blocks_size};
 ghost use Rattle.ocm_journal.specs.AfterFaults.{AfterFault};
 ghost use Rattle.ocm_journal.specs.Renewals.{HasCount, stops};
-ghost use Rattle.ocm_journal.specs.Journals.{IsImageWith, IsOldOrNew, IsStopped, disk_of, first_is_live, StandsFor};
+ghost use Rattle.ocm_journal.specs.Journals.{IsImageWith, IsOldOrNew, IsSelected, IsShut, IsStopped, disk_of, first_is_live, StandsFor};
 
 use crate::journal::Journal;
 use crate::steps::put_behind;
@@ -56,6 +56,10 @@ impl<D: Disk> Journal<D> {
         requires goes { self.old.stopped ≡ false }
         ensures acknowledged { D.tells → (label : List ℕ) (before : List (List ℕ)) → StandsFor ⟦<D as Disk>⟧ label before self.old
             → OnOk result (StandsFor ⟦<D as Disk>⟧ label records.now self.new) }
+
+        // The gate behind the records is closed by 00, and the selector is 01 or 02.
+        ensures shut { D.tells → OnOk result (IsShut ⟦<D as Disk>⟧ self.new) }
+        ensures selected { D.tells → OnOk result (IsSelected ⟦<D as Disk>⟧ self.new) }
 
         // A crash at any moment of the call leaves an image of the old records or of the new ones.
         ensures any_moment { D.tells → (label : List ℕ) (before : List (List ℕ)) → StandsFor ⟦<D as Disk>⟧ label before self.old

@@ -1,7 +1,9 @@
-use Rattle.std.proofs.Common.{◌≡◌, ◌<◌, ◌+◌, length, sym, ◌∙◌, ap, arith}
+use Rattle.std.proofs.Common.{◌≡◌, ◌<◌, ◌+◌, [], ◌∷◌, ◌++◌, length, sym, ◌∙◌, ap, arith, append_assoc, length-append}
+use Rattle.std.specs.Int.{w32, to_be_bytes}
 use Rattle.ocm_journal_image.specs.Layout.{live_start}
 use Rattle.ocm_journal.proofs.Appended.{blocks_size-push, length-record_text}
 use Rattle.ocm_journal.proofs.AppendStands.{on_ok, append_moments, append_image, append_after_fault}
+use Rattle.ocm_journal.proofs.Shut.{shut_behind}
 use Rattle.ocm_journal.proofs.journal.Journal.append.Goals as goal
 
 pub returns-then-is_err-clause-any_moment : goal.returns-then-is_err-clause-any_moment
@@ -43,3 +45,12 @@ returns-then-is_err-clause-after_fault g c = λ tells label records left s stopp
     let text = c.deref.ensures.value ∙ c.fill.ensures.items in
     let size : length c.deref.result.now ≡ length c.args.bytes.now + 5 = omega (arith, ap length text, length-record_text c.args.bytes.now) in
     append_after_fault g.D.Disk label records c.args.self.now c.args.bytes.now c.deref.result.now c.put_behind.new.disk text c.requires.size c.if-self-size.false inside s left (c.put_behind.ensures.cut_short tells s.durable left p b (omega (arith, size, c.requires.room.1)))
+
+pub returns-clause-shut : goal.returns-clause-shut
+returns-clause-shut g c = λ tells.
+    let inside : c.args.self.now.gate < length (g.D.Disk.seen c.args.self.now.disk) = omega (arith, c.args.self.now.inside, g.met.D.Disk.sizes c.args.self.now.disk tells) in
+    let good = sym c.is_err.ensures.value ∙ c.if-is_err.false in
+    let r = c.args.bytes.now in
+    let size = to_be_bytes w32 (length r) in
+    let text = c.deref.ensures.value ∙ c.fill.ensures.items ∙ sym (append_assoc size r (0 ∷ [])) in
+    shut_behind (g.D.Disk.seen c.args.self.now.disk) (c.args.self.now.gate + 1) c.deref.result.now c.args.self.now.gate 1 (g.D.Disk.seen c.put_behind.new.disk) (omega (arith, inside)) (omega (arith, inside)) (on_ok c.put_behind.result _ good (c.put_behind.ensures.switched tells)) (size ++ r) _ text (omega (arith, length-append size r)) (omega arith)
