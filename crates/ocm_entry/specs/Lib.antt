@@ -1,3 +1,5 @@
+pub mod Deliveries
 pub mod Fitting
 pub mod Proper
 pub mod Refusals
+pub mod Ticks

@@ -182,6 +182,27 @@ pub enum Method {
 }
 
 impl Ask {
+    ghost use Rattle.ocm_entry.specs.Ticks.{is_tick};
+
+    /// Whether this is the ask that brings the time.
+    pub fn is_tick(&self) -> bool
+        ensures { result ≡ is_tick self.now }
+    {
+        match self {
+            Ask::Tick { .. } => true,
+            Ask::AddUser { .. }
+            | Ask::Local { .. }
+            | Ask::Offer { .. }
+            | Ask::Notice { .. }
+            | Ask::Dav { .. }
+            | Ask::Due
+            | Ask::Settle { .. }
+            | Ask::Carry { .. } => false,
+        }
+    }
+}
+
+impl Ask {
     /// The same ask once more.
     pub fn copy(&self) -> Result<Ask, NoMemory>
         ensures { IfOk result (λ a. a ≡ self.now) }

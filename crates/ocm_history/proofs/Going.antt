@@ -9,9 +9,9 @@ use Rattle.ocm_entry.specs.declared.asks.Ask.TheVariants.{Tick}
 use Rattle.ocm_entry.specs.declared.entries.Entry.{Entry}
 use Rattle.ocm_journal_image.specs.declared.readings.RawRecord.{RawRecord}
 use Rattle.ocm_journal_image.specs.Layout.{contents}
-use Rattle.ocm_journal_audit.specs.declared.stamps.Stamped.{Stamped}
-use Rattle.ocm_journal_audit.specs.declared.stamps.Stamped.TheVariants as stamps
-use Rattle.ocm_journal_audit.specs.Stamps.{stamped_of}
+use Rattle.ocm_journal_records.specs.declared.stamps.Stamped.{Stamped}
+use Rattle.ocm_journal_records.specs.declared.stamps.Stamped.TheVariants as stamps
+use Rattle.ocm_journal_records.specs.Stamps.{stamped_of}
 use Rattle.ocm_rules.specs.History.{changes, kept}
 use Rattle.ocm_rules.specs.Shares.{moment}
 use Rattle.ocm_core.specs.Standing.{IsAfter}

@@ -8,7 +8,8 @@ use Rattle.ocm_entry.specs.Proper.{is_proper}
 use Rattle.ocm_entry_bytes.specs.Spells.{Fits, has_spelling}
 use Rattle.ocm_journal_image.specs.Layout.{AreRecords, blocks_size}
 use Rattle.ocm_rules.specs.History.{changes, changes_in, is_failure, kept}
-use Rattle.ocm_rules.specs.Lean.{count, is_tick, lean, leaned}
+use Rattle.ocm_rules.specs.Lean.{count, lean, leaned}
+use Rattle.ocm_entry.specs.Ticks.{is_tick}
 use Rattle.ocm_rules.specs.State.{State, after, step, view_in}
 use Rattle.ocm_law_sessions.specs.Sessions.{heard, would_change}
 use Rattle.ocm_law_sessions.specs.Written.{IsSpelled, asks_size, records_of}

@@ -4,7 +4,7 @@ ghost use Rattle.std.specs.Prelude.{◌≡◌, List, [], Some, None, IfOk, IfErr
 ghost use Rattle.ocm_entry.specs.declared.entries.Entry.{Entry};
 ghost use Rattle.ocm_entry.specs.Proper.{is_proper};
 ghost use Rattle.ocm_journal_image.specs.Layout.{contents};
-ghost use Rattle.ocm_journal_audit.specs.declared.stamps.Stamped.TheVariants as stamps;
+ghost use Rattle.ocm_journal_records.specs.declared.stamps.Stamped.TheVariants as stamps;
 ghost use Rattle.ocm_law_sessions.specs.Readings.{goes_on, opened, refused_at, with_stamped};
 ghost use Rattle.ocm_history.specs.Histories.{home_of};
 ghost use Rattle.ocm_history_records.specs.Asking.{HasProperAsk};
@@ -14,8 +14,8 @@ use crate::histories::History;
 use ocm_base::{List, NoMemory};
 use ocm_entry::Ask;
 use ocm_history_records::{ReplayFault, read_proper};
-use ocm_journal_audit::Stamped;
 use ocm_journal_image::RawRecord;
+use ocm_journal_records::Stamped;
 
 /// Goes on by a tick with this clock where it is above the moment so far. False where it is below.
 fn take_clock(history: &mut History, clock: u64) -> Result<bool, NoMemory>

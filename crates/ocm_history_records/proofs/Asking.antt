@@ -12,9 +12,9 @@ use Rattle.ocm_entry.specs.Proper.{is_body_of, is_proper, is_short}
 use Rattle.ocm_entry_bytes.specs.Spells.{AreBytes, has_kept_body, has_spelling}
 use Rattle.ocm_entry_bytes.proofs.Whole.{has_spelling-fits}
 use Rattle.ocm_rules.proofs.Lists.{both_pass}
-use Rattle.ocm_journal_audit.specs.declared.stamps.Stamped.{Stamped}
-use Rattle.ocm_journal_audit.specs.declared.stamps.Stamped.TheVariants as stamps
-use Rattle.ocm_journal_audit.specs.Stamps.{stamped_of}
+use Rattle.ocm_journal_records.specs.declared.stamps.Stamped.{Stamped}
+use Rattle.ocm_journal_records.specs.declared.stamps.Stamped.TheVariants as stamps
+use Rattle.ocm_journal_records.specs.Stamps.{stamped_of}
 use Rattle.ocm_law_sessions.proofs.Spelling.{FitsStamped, stamped-fits}
 use Rattle.ocm_history_records.specs.Asking.{HasProperAsk}
 

@@ -8,7 +8,8 @@ use Rattle.ocm_entry.specs.declared.entries.Entry.{Entry}
 use Rattle.ocm_entry_bytes.specs.Spells.{Fits, eight_bytes, spelling}
 use Rattle.ocm_journal_image.specs.Layout.{AreRecords, blocks_size}
 use Rattle.ocm_rules.specs.History.{kept}
-use Rattle.ocm_rules.specs.Lean.{count, emptied_among, is_tick, lean}
+use Rattle.ocm_rules.specs.Lean.{count, emptied_among, lean}
+use Rattle.ocm_entry.specs.Ticks.{is_tick}
 use Rattle.ocm_rules.specs.Shares.{moment}
 use Rattle.ocm_rules.proofs.Lists.{count_by-cons}
 use Rattle.ocm_law_sessions.specs.Sessions.{heard, would_change}

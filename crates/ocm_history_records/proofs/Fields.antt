@@ -6,7 +6,7 @@ use Rattle.std.proofs.Math.Seq.{take-append_seam}
 use Rattle.ocm_entry.specs.declared.asks.Ask.{Ask}
 use Rattle.ocm_entry_bytes.specs.Spells.{Fits, counted, eight_bytes, four_bytes, spelling}
 use Rattle.ocm_entry_bytes.proofs.Lengths.{spelled_len}
-use Rattle.ocm_rules.specs.Lean.{is_tick}
+use Rattle.ocm_entry.specs.Ticks.{is_tick}
 use Rattle.ocm_law_sessions.specs.Written.{stamp}
 
 four-long : (n : ℕ) → length (four_bytes n) ≡ 4

@@ -12,7 +12,8 @@ use Rattle.ocm_entry.specs.declared.rows.Place.{Place}
 use Rattle.ocm_entry_bytes.specs.Spells.{counted, spelling, text}
 use Rattle.ocm_rules.specs.Files.{Act, Placed, Gone, Carried, act_after}
 use Rattle.ocm_rules.specs.History.{kept}
-use Rattle.ocm_rules.specs.Lean.{are_somewhere, emptied_among, is_tick, lean, placed_at, places_after, places_of, still_stands, without_body, without_passed_ticks}
+use Rattle.ocm_rules.specs.Lean.{are_somewhere, emptied_among, lean, placed_at, places_after, places_of, still_stands, without_body, without_passed_ticks}
+use Rattle.ocm_entry.specs.Ticks.{is_tick}
 use Rattle.ocm_law_lean.proofs.Thin.{kept_ask, is_tick-kept}
 use Rattle.ocm_law_sessions.specs.Sessions.{heard, would_change}
 use Rattle.ocm_law_sessions.specs.Written.{asks_size}

@@ -10,7 +10,8 @@ use Rattle.ocm_entry.specs.declared.asks.Method.TheVariants as methods
 use Rattle.ocm_entry.specs.declared.entries.Entry.{Entry}
 use Rattle.ocm_entry_bytes.specs.Spells.{counted, eight_bytes}
 use Rattle.ocm_rules.specs.History.{kept}
-use Rattle.ocm_rules.specs.Lean.{emptied_among, emptied_unless, is_tick, lean, still_stands, without_body}
+use Rattle.ocm_rules.specs.Lean.{emptied_among, emptied_unless, lean, still_stands, without_body}
+use Rattle.ocm_entry.specs.Ticks.{is_tick}
 use Rattle.ocm_rules.specs.Shares.{clock_of, moment}
 use Rattle.ocm_law_lean.proofs.Thin.{kept_ask, is_tick-kept, same_kept}
 use Rattle.ocm_law_sessions.specs.Sessions.{heard, would_change}

@@ -1,7 +1,7 @@
 -- What the records of a journal ask.
 use Rattle.std.specs.Prelude.{IsTrue}
-use Rattle.ocm_journal_audit.specs.declared.stamps.Stamped.{Stamped}
-use Rattle.ocm_journal_audit.specs.declared.stamps.Stamped.TheVariants as stamps
+use Rattle.ocm_journal_records.specs.declared.stamps.Stamped.{Stamped}
+use Rattle.ocm_journal_records.specs.declared.stamps.Stamped.TheVariants as stamps
 use Rattle.ocm_entry.specs.Proper.{is_proper}
 
 -- the ask of what a record says is proper, where it says one

@@ -2,7 +2,7 @@
 ghost use Rattle.std.specs.Prelude.{◌≡◌, ◌≤◌, ◌+◌, ◌==◌, ℕ, List, length, min, if◌then◌else◌, unwrap_or, IsTrue, IfOk, OnOk};
 ghost use Rattle.ocm_entry.specs.declared.entries.Entry.{Entry};
 ghost use Rattle.ocm_entry_bytes.specs.Spells.{Fits, has_spelling, spelling};
-ghost use Rattle.ocm_rules.specs.Lean.{is_tick};
+ghost use Rattle.ocm_entry.specs.Ticks.{is_tick};
 ghost use Rattle.ocm_rules.specs.History.{kept};
 ghost use Rattle.ocm_rules.specs.Shares.{clock_of, moment};
 ghost use Rattle.ocm_law_sessions.specs.Written.{stamp};
@@ -99,27 +99,10 @@ fn stamped(alloc: Global, clock: u64, ask: &Ask, spelled: &Bytes) -> Result<Byte
     ensures { IfOk result (λ text. text ≡ stamp clock ask.now) }
 {
     let mut text = Bytes::of(alloc, &clock.to_be_bytes())?;
-    if !is_tick(ask) {
+    if !ask.is_tick() {
         text.add(spelled.as_slice())?;
     }
     Ok(text)
-}
-
-/// Whether an ask is a tick.
-fn is_tick(ask: &Ask) -> bool
-    ensures { result ≡ is_tick ask.now }
-{
-    match ask {
-        Ask::Tick { .. } => true,
-        Ask::AddUser { .. }
-        | Ask::Local { .. }
-        | Ask::Offer { .. }
-        | Ask::Notice { .. }
-        | Ask::Dav { .. }
-        | Ask::Due
-        | Ask::Settle { .. }
-        | Ask::Carry { .. } => false,
-    }
 }
 
 /// The moment at an ask that changes something, where it was this before: that of a tick is its clock.

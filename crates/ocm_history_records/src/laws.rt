@@ -3,7 +3,8 @@ ghost use Rattle.std.specs.Prelude.{◌≡◌, ◌≤◌, ◌+◌, ◌∷◌, �
 ghost use Rattle.ocm_entry.specs.declared.asks.Ask.{Ask};
 ghost use Rattle.ocm_entry.specs.declared.entries.Entry.{Entry};
 ghost use Rattle.ocm_entry_bytes.specs.Spells.{spelling};
-ghost use Rattle.ocm_rules.specs.Lean.{is_tick, lean};
+ghost use Rattle.ocm_rules.specs.Lean.{lean};
+ghost use Rattle.ocm_entry.specs.Ticks.{is_tick};
 ghost use Rattle.ocm_law_sessions.specs.Sessions.{heard, would_change};
 ghost use Rattle.ocm_law_sessions.specs.Written.{asks_size};
 

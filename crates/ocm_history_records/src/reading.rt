@@ -1,10 +1,10 @@
 //! What the records of a journal say.
 ghost use Rattle.std.specs.Prelude.{◌≡◌, IfOk, IfSome};
-ghost use Rattle.ocm_journal_audit.specs.Stamps.{stamped_of};
+ghost use Rattle.ocm_journal_records.specs.Stamps.{stamped_of};
 ghost use Rattle.ocm_history_records.specs.Asking.{HasProperAsk};
 
 use ocm_base::NoMemory;
-use ocm_journal_audit::{Stamped, read_stamped};
+use ocm_journal_records::{Stamped, read_stamped};
 use std::alloc::Global;
 
 /// What a record of an area of this form says, and None where it is no record of that form. Its ask is proper.

@@ -12,13 +12,15 @@ fn is_ows(byte: u8) -> bool
     byte == b' ' || byte == b'\t'
 }
 
-fn are_ows(bytes: &[u8]) -> bool
+/// Whether all bytes are blanks of a field (RFC 9110 section 5.6.3).
+pub fn are_ows(bytes: &[u8]) -> bool
     ensures { result ≡ list_all grammar.is_ows bytes.now }
 {
     bytes.iter().all(|byte| is_ows(*byte))
 }
 
-fn skip_ows(bytes: &[u8]) -> &[u8]
+/// The bytes from the first on that is no blank of a field.
+pub fn skip_ows(bytes: &[u8]) -> &[u8]
     ensures { result.now ≡ grammar.skip_ows bytes.now }
 {
     let mut rest = bytes;

@@ -12,6 +12,7 @@ mod replies;
 mod requests;
 
 pub use chunk_lines::{ChunkLine, read_chunk_line};
+pub use closings::{are_ows, skip_ows};
 pub use endings::{Found, Look, Stand, blanks};
 pub use fields::{Field, Head};
 pub use laws::{head_ends_with_first_empty_line, trailers_end_with_first_empty_line};

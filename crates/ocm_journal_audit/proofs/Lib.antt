@@ -1,4 +1,3 @@
-pub mod Asks
 pub mod Framing
 pub mod Sending
 pub mod Telling

@@ -8,8 +8,8 @@ use Rattle.ocm_journal_image.specs.Reading.{image_of}
 use Rattle.ocm_journal_image.specs.declared.readings.Image.{Image}
 use Rattle.ocm_journal_image.specs.declared.readings.RawRecord.{RawRecord}
 use Rattle.ocm_types.specs.Hosts.{canonical_host_of}
-use Rattle.ocm_journal_audit.specs.Stamps.{kind_of, refused_from, stamped_of}
-use Rattle.ocm_journal_audit.specs.declared.stamps.Stamped.{Stamped}
+use Rattle.ocm_journal_records.specs.Stamps.{kind_of, refused_from, stamped_of}
+use Rattle.ocm_journal_records.specs.declared.stamps.Stamped.{Stamped}
 
 -- whether a label is a host's own text
 abbrev pub is_own_host : List ℕ → Bool

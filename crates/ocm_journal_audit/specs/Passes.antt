@@ -3,7 +3,7 @@ use Rattle.std.specs.Prelude.{◌≡◌, ℕ, List, [], ◌++◌, Option, Result
 use Rattle.ocm_base.specs.Outside.{Appends}
 use Rattle.ocm_journal_image.specs.declared.readings.Records.{Records}
 use Rattle.ocm_journal_audit.specs.Audits.{end_line, lines_of}
-use Rattle.ocm_journal_audit.specs.Stamps.{refused_from}
+use Rattle.ocm_journal_records.specs.Stamps.{refused_from}
 
 -- the place of the first record that is refused at this moment so far, where the records are framed
 abbrev pub refused_in : ℕ → ℕ → Result Records ℕ → Result (Option ℕ) ℕ

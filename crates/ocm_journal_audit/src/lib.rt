@@ -6,11 +6,9 @@ mod faults;
 mod labels;
 mod laws;
 mod lines;
-mod stamps;
 mod testing;
 mod writing;
 
 pub use audits::audit;
 pub use faults::AuditFault;
 pub use laws::an_audit_tells_one_thing;
-pub use stamps::{Stamped, moment_past, read_stamped};

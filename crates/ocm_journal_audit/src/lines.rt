@@ -1,10 +1,10 @@
 ghost use Rattle.std.specs.Prelude.{◌≡◌, ◌++◌, length, OnOk, IfOk};
 ghost use Rattle.std.specs.Fmt.{decimal};
 ghost use Rattle.ocm_journal_audit.specs.Audits.{end_line, host_line, kind_in, line_of};
-ghost use Rattle.ocm_journal_audit.specs.Stamps.{stamped_of};
+ghost use Rattle.ocm_journal_records.specs.Stamps.{stamped_of};
 
-use crate::stamps::read_stamped;
 use ocm_base::{Bytes, NoMemory};
+use ocm_journal_records::read_stamped;
 use std::alloc::Global;
 
 /// The line that names the host of a journal.

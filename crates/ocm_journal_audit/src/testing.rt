@@ -2,8 +2,8 @@ ghost use Rattle.std.specs.Prelude.{◌≡◌, ◌≤◌, ◌+◌, ◌^◌, leng
 ghost use Rattle.ocm_journal_image.specs.Reading.{Gives, records_from};
 ghost use Rattle.ocm_journal_audit.specs.Passes.{refused_in};
 
-use crate::stamps::moment_past;
 use ocm_journal_image::{ImageFault, NotImage, next_record};
+use ocm_journal_records::moment_past;
 use std::alloc::Global;
 
 /// Tests the framing of the records from the gate at `place` on, which is the first of `bytes`.

@@ -19,7 +19,8 @@ use Rattle.ocm_rules.specs.Messages.{view_of}
 use Rattle.ocm_rules.specs.Views.{View}
 use Rattle.ocm_rules.specs.Answers.{reply_in}
 use Rattle.ocm_rules.specs.History.{kept, answer, answer_kept, changes, changes_in, IsAnswered, IsLegal}
-use Rattle.ocm_rules.specs.Lean.{is_tick, emptied_unless, still_stands, leaned, lean}
+use Rattle.ocm_rules.specs.Lean.{emptied_unless, still_stands, leaned, lean}
+use Rattle.ocm_entry.specs.Ticks.{is_tick}
 use Rattle.ocm_rules.specs.State.{node_at}
 use Rattle.ocm_rules.proofs.Kept.{kept-answered}
 use Rattle.ocm_rules.proofs.Places.{same_place-equal}

@@ -12,7 +12,8 @@ use Rattle.ocm_rules.specs.Users.{users}
 use Rattle.ocm_rules.specs.Shares.{made}
 use Rattle.ocm_rules.specs.Holders.{root_among}
 use Rattle.ocm_rules.specs.Files.{Act, Placed, Gone, Carried, act_by, act_after, below}
-use Rattle.ocm_rules.specs.Lean.{is_tick, emptied_unless, without_body, placed_at, places_after, places_of, are_somewhere, still_stands, leaned}
+use Rattle.ocm_rules.specs.Lean.{emptied_unless, without_body, placed_at, places_after, places_of, are_somewhere, still_stands, leaned}
+use Rattle.ocm_entry.specs.Ticks.{is_tick}
 use Rattle.ocm_law_lean.proofs.Thin.{kept_ask, thin_cons, thin, same_kept, of_tick, thin-among, is_tick-kept}
 use Rattle.ocm_law_lean.proofs.Readings.{thin-act}
 

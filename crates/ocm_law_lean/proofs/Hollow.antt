@@ -13,7 +13,8 @@ use Rattle.ocm_rules.specs.Users.{users}
 use Rattle.ocm_rules.specs.Shares.{made}
 use Rattle.ocm_rules.specs.Holders.{root_among}
 use Rattle.ocm_rules.specs.Files.{Act, Placed, Gone, Carried, act_by, act_after, below, same_place, is_at_or_above, moved, with_node, copies, nodes_after, nodes}
-use Rattle.ocm_rules.specs.Lean.{is_tick, emptied_unless}
+use Rattle.ocm_rules.specs.Lean.{emptied_unless}
+use Rattle.ocm_entry.specs.Ticks.{is_tick}
 use Rattle.ocm_rules.specs.State.{node_at, EachOnce}
 use Rattle.ocm_rules.proofs.Lists.{not_both}
 use Rattle.ocm_rules.proofs.Places.{same_place-Decides, same_place-refl, same_place-equal, moved-there}

@@ -14,7 +14,8 @@ use Rattle.ocm_rules.specs.Shares.{moment, clock_of, closed_by, is_closed, end_b
 use Rattle.ocm_rules.specs.Holders.{root_among}
 use Rattle.ocm_rules.specs.Files.{act_by, act_after}
 use Rattle.ocm_rules.specs.History.{kept}
-use Rattle.ocm_rules.specs.Lean.{is_tick, emptied_unless, still_stands, lean}
+use Rattle.ocm_rules.specs.Lean.{emptied_unless, still_stands, lean}
+use Rattle.ocm_entry.specs.Ticks.{is_tick}
 use Rattle.ocm_law_lean.proofs.Thin.{kept_ask, thin_cons, thin, same_kept, of_tick, thin-read, thin-among}
 
 -- ---- users

@@ -7,7 +7,8 @@ use Rattle.ocm_entry.specs.declared.replies.Reply.{Reply}
 use Rattle.ocm_entry.specs.declared.entries.Entry.{Entry}
 use Rattle.ocm_path.specs.Paths.{Segments}
 use Rattle.ocm_rules.specs.History.{kept}
-use Rattle.ocm_rules.specs.Lean.{is_tick, count, without_body, emptied_unless, emptied_among, still_stands, unless_passed, without_passed_ticks, lean}
+use Rattle.ocm_rules.specs.Lean.{count, without_body, emptied_unless, emptied_among, still_stands, unless_passed, without_passed_ticks, lean}
+use Rattle.ocm_entry.specs.Ticks.{is_tick}
 use Rattle.ocm_rules.proofs.Lists.{count_by-cons}
 
 -- an ask, without its body unless that is kept

@@ -27,7 +27,8 @@ use Rattle.ocm_rules.specs.Offers.{offers, offer_by, since_offer, declines, acce
 use Rattle.ocm_rules.specs.Requests.{requests, request_by, undoes, is_undone, state_among}
 use Rattle.ocm_rules.specs.Views.{View, view_with, is_limit, limits}
 use Rattle.ocm_rules.specs.Messages.{sends, out, view_of}
-use Rattle.ocm_rules.specs.Lean.{is_tick, emptied_unless}
+use Rattle.ocm_rules.specs.Lean.{emptied_unless}
+use Rattle.ocm_entry.specs.Ticks.{is_tick}
 use Rattle.ocm_rules.proofs.Lists.{count_by-cons}
 use Rattle.ocm_law_lean.proofs.Thin.{kept_ask, thin_cons, thin, same_kept, of_tick, thin-read}
 use Rattle.ocm_law_lean.proofs.Readings.{thin-users, thin-latest, thin-any, thin-perms, thin-made, thin-moment, thin-goes_on}

@@ -19,7 +19,8 @@ use Rattle.ocm_rules.specs.Answers.{refused, get_reply, list_reply, items_in, me
 use Rattle.ocm_rules.specs.Files.{at, below}
 use Rattle.ocm_rules.specs.History.{kept, answer_kept}
 use Rattle.ocm_rules.specs.Holders.{permits}
-use Rattle.ocm_rules.specs.Lean.{is_tick, still_stands, lean}
+use Rattle.ocm_rules.specs.Lean.{still_stands, lean}
+use Rattle.ocm_entry.specs.Ticks.{is_tick}
 use Rattle.ocm_rules.specs.Messages.{view_of}
 use Rattle.ocm_rules.specs.Shares.{moment}
 use Rattle.ocm_rules.specs.Views.{View, grant_in}

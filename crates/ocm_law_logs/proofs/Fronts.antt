@@ -5,7 +5,8 @@ use Rattle.std.specs.Option.{option_or}
 use Rattle.std.proofs.lemmas.Bool.{eqb-true, eq-eqb, ne_eqb}
 use Rattle.ocm_entry.specs.declared.entries.Entry.{Entry}
 use Rattle.ocm_rules.specs.History.{kept, changes}
-use Rattle.ocm_rules.specs.Lean.{is_tick, emptied_unless}
+use Rattle.ocm_rules.specs.Lean.{emptied_unless}
+use Rattle.ocm_entry.specs.Ticks.{is_tick}
 use Rattle.ocm_rules.proofs.Lists.{count_by-cons}
 use Rattle.ocm_law_lean.proofs.Thin.{thin_cons, thin-count}
 use Rattle.ocm_access_log.specs.Truth.{if_counts, prefix_at, end_of}

@@ -10,7 +10,7 @@ use Rattle.ocm_entry.specs.declared.entries.Entry.{Entry}
 use Rattle.ocm_entry.specs.declared.replies.Reply.{Reply}
 use Rattle.ocm_entry.specs.declared.replies.Reply.TheVariants.{Done}
 use Rattle.ocm_rules.specs.History.{kept, changes, changes_in}
-use Rattle.ocm_rules.specs.Lean.{is_tick}
+use Rattle.ocm_entry.specs.Ticks.{is_tick}
 use Rattle.ocm_rules.specs.Messages.{view_of}
 use Rattle.ocm_rules.specs.Shares.{clock_of, moment}
 use Rattle.ocm_rules.specs.Views.{View}

@@ -10,7 +10,8 @@ use Rattle.ocm_entry.specs.declared.entries.Entry.{Entry}
 use Rattle.ocm_entry.specs.declared.replies.Reply.{Reply}
 use Rattle.ocm_entry.specs.declared.replies.Reply.TheVariants.{Done}
 use Rattle.ocm_rules.specs.History.{kept, answer_kept, answer}
-use Rattle.ocm_rules.specs.Lean.{is_tick, without_body, lean, count}
+use Rattle.ocm_rules.specs.Lean.{without_body, lean, count}
+use Rattle.ocm_entry.specs.Ticks.{is_tick}
 use Rattle.ocm_rules.specs.Shares.{moment}
 use Rattle.ocm_rules.proofs.Lists.{both_pass}
 use Rattle.ocm_law_lean.proofs.Thin.{of_tick, count-same}

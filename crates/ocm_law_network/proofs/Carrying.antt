@@ -32,7 +32,7 @@ use Rattle.ocm_server_connections.specs.declared.endings.Missed.TheVariants as m
 use Rattle.ocm_turn.specs.Calls.{entry}
 use Rattle.ocm_rules.specs.History.{is_failure}
 use Rattle.ocm_rules.proofs.Lists.{not_both}
-use Rattle.ocm_law_world.specs.Deliveries.{letter_ask, delivered_status}
+use Rattle.ocm_entry.specs.Deliveries.{delivered_status, letter_ask}
 use Rattle.ocm_law_posts.specs.Answers.{IsSound, Tells, may_answer}
 use Rattle.ocm_law_posts.specs.Documents.{own_site}
 use Rattle.ocm_law_posts.specs.Letters.{IsLetter}

@@ -13,7 +13,7 @@ use Rattle.ocm_rules.specs.Numbers.{at_number}
 use Rattle.ocm_rules.proofs.Lists.{not_both}
 use Rattle.ocm_rules.proofs.Searches.{neither}
 use Rattle.ocm_law_sessions.specs.Sessions.{IsReply as IsSessionReply}
-use Rattle.ocm_law_world.specs.Deliveries.{letter_ask}
+use Rattle.ocm_entry.specs.Deliveries.{letter_ask}
 use Rattle.ocm_law_world.specs.World.{Answer, Run, Session, World, answer_to, changed, empty_among, is_settlement, settlement_by, with_call}
 use Rattle.ocm_law_world.specs.World.Run.{Stays, Goes_on}
 use Rattle.ocm_law_world.specs.World.Step.{Begins as ServerBegins, Delivers, Foreign}

@@ -15,12 +15,12 @@ use Rattle.ocm_server_connections.specs.Sides.{IsFront}
 use Rattle.ocm_server_connections.specs.Talk.{is_done, ticked}
 use Rattle.ocm_turn.specs.Calls.{entry}
 use Rattle.ocm_rules.specs.History.{is_failure}
-use Rattle.ocm_rules.specs.Lean.{is_tick}
+use Rattle.ocm_entry.specs.Ticks.{is_tick}
 use Rattle.ocm_rules.proofs.Lists.{not_both}
 use Rattle.ocm_law_sessions.specs.Sessions.{IsReply as IsSessionReply, fault_in}
 use Rattle.ocm_law_sessions.proofs.Replying.{reply-given}
 use Rattle.ocm_law_world.specs.World.{Session}
-use Rattle.ocm_law_world.specs.Deliveries.{letter_ask}
+use Rattle.ocm_entry.specs.Deliveries.{letter_ask}
 use Rattle.ocm_law_posts.specs.Answers.{may_answer}
 use Rattle.ocm_law_posts.specs.Documents.{own_site}
 use Rattle.ocm_law_posts.specs.Names.{StandsInUrls, name_of}

@@ -24,7 +24,7 @@ use Rattle.ocm_rules.specs.Offers.{offers}
 use Rattle.ocm_rules.proofs.Searches.{some-same}
 use Rattle.ocm_law_sessions.specs.Sessions.{IsToldReply, fault_in, fits, would_change}
 use Rattle.ocm_law_sessions.specs.Written.{record_of}
-use Rattle.ocm_law_world.specs.Deliveries.{letter_ask}
+use Rattle.ocm_entry.specs.Deliveries.{letter_ask}
 use Rattle.ocm_law_world.specs.Guests.{IsMade}
 use Rattle.ocm_law_world.specs.Stories.{Holds, IsAnswer}
 use Rattle.ocm_law_world.specs.World.{Session, history_of, kept_at}

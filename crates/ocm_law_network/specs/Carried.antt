@@ -19,9 +19,9 @@ use Rattle.ocm_server_connections.specs.Talk.{Shown, Talk, is_done, ticked}
 use Rattle.ocm_server_connections.specs.declared.endings.Ended.{Ended}
 use Rattle.ocm_turn.specs.Calls.{entry}
 use Rattle.ocm_rules.specs.History.{is_failure}
-use Rattle.ocm_rules.specs.Lean.{is_tick}
+use Rattle.ocm_entry.specs.Ticks.{is_tick}
 use Rattle.ocm_rules.specs.Numbers.{at_number}
-use Rattle.ocm_law_world.specs.Deliveries.{letter_ask}
+use Rattle.ocm_entry.specs.Deliveries.{letter_ask}
 use Rattle.ocm_law_posts.specs.Answers.{IsSound, may_answer}
 use Rattle.ocm_law_posts.specs.Documents.{own_site}
 use Rattle.ocm_law_posts.specs.Letters.{IsLetter}

@@ -11,7 +11,7 @@ use Rattle.ocm_rules.specs.Cases.{add_alice, add_bob, alice_key, alice_shares, b
 use Rattle.ocm_rules.specs.Messages.{acceptance, refusal}
 use Rattle.ocm_rules.specs.Numbers.{at_number}
 use Rattle.ocm_rules.specs.declared.rows.Message.{Message}
-use Rattle.ocm_law_world.specs.Deliveries.{letter_ask}
+use Rattle.ocm_entry.specs.Deliveries.{letter_ask}
 use Rattle.ocm_law_posts.specs.Documents.{own_site}
 use Rattle.ocm_law_posts.specs.Posts.{post_shape}
 use Rattle.ocm_law_network.specs.Network.{Event, Has, Post, posts}

@@ -22,7 +22,7 @@ use Rattle.ocm_rules.specs.Numbers.{at_number, same_text}
 use Rattle.ocm_rules.specs.Settlements.{is_success, is_refusal}
 use Rattle.ocm_law_sessions.specs.Sessions.{IsReply as IsSessionReply}
 use Rattle.ocm_law_sessions.specs.Crashes.{IsNext}
-use Rattle.ocm_law_world.specs.Deliveries.{delivered_id, delivered_status}
+use Rattle.ocm_entry.specs.Deliveries.{delivered_id, delivered_status}
 use Rattle.ocm_law_world.specs.World.{Answer, Session, World, is_settlement, kept_at, new_session, reopened, with_call}
 use Rattle.ocm_law_posts.specs.Documents.{own_site}
 use Rattle.ocm_law_posts.specs.Letters.{IsLetter}

@@ -41,7 +41,7 @@ use Rattle.ocm_dav_pages.specs.Fields.{content_type, challenge, allowed, status_
 use Rattle.ocm_dav_pages.specs.Pages.{json, page, page_of, message_page}
 use Rattle.ocm_dav_pages.specs.declared.shapes.Allow.TheVariants.{Post}
 use Rattle.ocm_pump.specs.Delivery.{answer_of, asks_share, is_success, child, with_child}
-use Rattle.ocm_law_world.specs.Deliveries.{delivered_status, delivered_id}
+use Rattle.ocm_entry.specs.Deliveries.{delivered_id, delivered_status}
 use Rattle.ocm_law_posts.specs.Answers.{is_offer, Tells, AnswersAreTold}
 use Rattle.ocm_law_posts.proofs.Spelled.{text-short, text-read}
 use Rattle.ocm_law_posts.proofs.Fitting.{Fits, text-few, string-fits, literal-fits, object-fits, array-fits, nothing-fits, member-fits, item-fits, no_items-fit, roomy}

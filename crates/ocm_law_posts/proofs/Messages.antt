@@ -5,7 +5,7 @@ use Rattle.ocm_limits.specs.Limits.{most_body_bytes}
 use Rattle.ocm_http_heads.specs.declared.fields.Field.{Field}
 use Rattle.ocm_http_heads.specs.declared.fields.Head.TheVariants.{Request}
 use Rattle.ocm_dav.specs.declared.configs.Config.{Config}
-use Rattle.ocm_law_world.specs.Deliveries.{letter_ask}
+use Rattle.ocm_entry.specs.Deliveries.{letter_ask}
 use Rattle.ocm_types.specs.declared.letters.Letter.{Letter}
 use Rattle.ocm_types.specs.declared.letters.Letter.TheVariants as letters
 use Rattle.ocm_http.specs.Written.{written_request}

@@ -28,7 +28,7 @@ use Rattle.ocm_rules.specs.Users.{is_taken}
 use Rattle.ocm_rules.specs.Shares.{address_of, is_used}
 use Rattle.ocm_rules.specs.Offers.{is_known}
 use Rattle.ocm_texts.specs.Hex.{hex}
-use Rattle.ocm_law_world.specs.Deliveries.{letter_ask}
+use Rattle.ocm_entry.specs.Deliveries.{letter_ask}
 use Rattle.ocm_law_posts.specs.Answers.{may_answer, RepliesAnswer}
 
 -- it may answer this letter

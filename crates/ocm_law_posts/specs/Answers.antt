@@ -13,7 +13,7 @@ use Rattle.ocm_dav_pages.specs.Pages.{page_of}
 use Rattle.ocm_pump.specs.Delivery.{answer_in, asks_share}
 use Rattle.ocm_entry.specs.declared.entries.Entry.{Entry}
 use Rattle.ocm_law_sessions.specs.Sessions.{IsReply as IsSessionReply}
-use Rattle.ocm_law_world.specs.Deliveries.{letter_ask, delivered_status, delivered_id}
+use Rattle.ocm_entry.specs.Deliveries.{delivered_id, delivered_status, letter_ask}
 use Rattle.ocm_law_posts.specs.Posts.{post_shape}
 
 -- whether a letter is an offer

@@ -24,7 +24,7 @@ use Rattle.ocm_dav.specs.declared.wants.Wanted.TheVariants as wanted
 use Rattle.ocm_pump.specs.Delivery.{letter_bytes, letter_end, post_request}
 use Rattle.ocm_pump.specs.Sites.{site_of}
 use Rattle.ocm_pump.specs.declared.sites.Site.{Site}
-use Rattle.ocm_law_world.specs.Deliveries.{letter_ask}
+use Rattle.ocm_entry.specs.Deliveries.{letter_ask}
 use Rattle.ocm_law_posts.specs.Letters.{IsLetter}
 use Rattle.ocm_law_posts.specs.Names.{StandsInUrls, name_of}
 

@@ -19,7 +19,7 @@ ghost use Rattle.ocm_pump.specs.Sites.{site_of};
 ghost use Rattle.ocm_pump.specs.declared.sites.Site.{Site};
 ghost use Rattle.ocm_rules.specs.Cases.{our_host};
 ghost use Rattle.ocm_rules.specs.History.{answer};
-ghost use Rattle.ocm_law_world.specs.Deliveries.{delivered_status, letter_ask};
+ghost use Rattle.ocm_entry.specs.Deliveries.{delivered_status, letter_ask};
 ghost use Rattle.ocm_law_posts.specs.Answers.{may_answer};
 ghost use Rattle.ocm_law_posts.specs.Letters.{IsLetter};
 ghost use Rattle.ocm_law_posts.specs.Names.{StandsInUrls, name_of};

@@ -16,11 +16,11 @@ use Rattle.ocm_rules.specs.Messages.{as_sent, is_due, numbered_from, out}
 use Rattle.ocm_rules.specs.Numbers.{at_number}
 use Rattle.ocm_rules.specs.Settlements.{is_settled}
 use Rattle.ocm_law_sessions.specs.Sessions.{IsReply}
-use Rattle.ocm_law_world.specs.Deliveries as sent
+use Rattle.ocm_entry.specs.Deliveries as sent
 use Rattle.ocm_law_world.specs.World.{Answer, Step, World, answer_to, changed, empty, settlement_by, with_call}
 use Rattle.ocm_law_world.specs.World.Run.{Stays, Goes_on}
 use Rattle.ocm_law_world.specs.World.Step.{Delivers}
-use Rattle.ocm_script_run.specs.Asked.{letter_ask}
+use Rattle.ocm_entry.specs.Deliveries.{letter_ask}
 use Rattle.ocm_script_run.specs.Deliveries.{Run, all_delivered, answered, deliver, delivered, next_wanting, nothing, others_wanting, pump, pumped, settlement, unreachable}
 use Rattle.ocm_script_run.specs.Servers.{Server, area, asked_at, history, message_of, reply_of, server_after, server_at}
 use Rattle.ocm_law_runs.specs.Standing.{Stands, session_of}

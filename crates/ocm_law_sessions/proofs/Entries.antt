@@ -13,10 +13,9 @@ use Rattle.ocm_rules.specs.Views.{View}
 use Rattle.ocm_rules.specs.Messages.{view_of}
 use Rattle.ocm_rules.specs.Answers.{reply_in}
 use Rattle.ocm_rules.specs.Shares.{clock_of, moment}
-use Rattle.ocm_rules.specs.Lean.{is_tick}
+use Rattle.ocm_entry.specs.Ticks.{is_tick, is_tick as is_stamped_tick}
 use Rattle.ocm_rules.specs.History.{kept, answer_kept, changes, changes_in, IsAnswered, IsLegal}
 use Rattle.ocm_law_lean.proofs.Thin.{of_tick}
-use Rattle.ocm_journal_audit.specs.Stamps.{is_tick as is_stamped_tick}
 use Rattle.ocm_law_sessions.specs.Readings.{entry_after, with_change, with_ask, with_moment}
 
 -- ---- the entry of an ask

@@ -8,9 +8,9 @@ use Rattle.ocm_journal_image.specs.declared.readings.RawRecord.{RawRecord}
 use Rattle.ocm_journal_image.specs.Layout.{contents}
 use Rattle.ocm_rules.specs.Shares.{moment}
 use Rattle.ocm_rules.specs.History.{IsAnswered}
-use Rattle.ocm_journal_audit.specs.declared.stamps.Stamped.{Stamped}
-use Rattle.ocm_journal_audit.specs.declared.stamps.Stamped.TheVariants as stamps
-use Rattle.ocm_journal_audit.specs.Stamps.{stamped_of}
+use Rattle.ocm_journal_records.specs.declared.stamps.Stamped.{Stamped}
+use Rattle.ocm_journal_records.specs.declared.stamps.Stamped.TheVariants as stamps
+use Rattle.ocm_journal_records.specs.Stamps.{stamped_of}
 use Rattle.ocm_law_sessions.specs.Readings.{entry_after, with_ask, with_moment, with_stamped, goes_on, opened_from, opened, refused_from, refused_at}
 use Rattle.ocm_law_sessions.proofs.Entries.{with_ask-gives}
 

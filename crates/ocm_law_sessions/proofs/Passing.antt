@@ -4,7 +4,8 @@ use Rattle.std.specs.Prelude.{if◌then◌else◌, ◌&&◌, unwrap_or}
 use Rattle.std.specs.Option.{option_or}
 use Rattle.ocm_entry.specs.declared.entries.Entry.{Entry}
 use Rattle.ocm_rules.specs.Shares.{clock_of, moment}
-use Rattle.ocm_rules.specs.Lean.{is_tick, emptied_among, without_passed_ticks, lean}
+use Rattle.ocm_rules.specs.Lean.{emptied_among, without_passed_ticks, lean}
+use Rattle.ocm_entry.specs.Ticks.{is_tick}
 use Rattle.ocm_rules.specs.History.{kept}
 use Rattle.ocm_law_lean.proofs.Thin.{of_tick}
 use Rattle.ocm_law_sessions.specs.Written.{stamp, record_of, ask_records, records_of}

@@ -3,9 +3,10 @@ use Rattle.std.proofs.Common.{◌≡◌, ℕ, ◌≤◌, List, [], ◌∷◌, �
 use Rattle.std.specs.Prelude.{if◌then◌else◌, ◌&&◌}
 use Rattle.std.proofs.lemmas.Bool.{ltb-true}
 use Rattle.ocm_entry.specs.declared.entries.Entry.{Entry}
-use Rattle.ocm_journal_audit.specs.declared.stamps.Stamped.TheVariants as stamps
+use Rattle.ocm_journal_records.specs.declared.stamps.Stamped.TheVariants as stamps
 use Rattle.ocm_rules.specs.Shares.{moment}
-use Rattle.ocm_rules.specs.Lean.{is_tick, emptied_among, without_passed_ticks, lean}
+use Rattle.ocm_rules.specs.Lean.{emptied_among, without_passed_ticks, lean}
+use Rattle.ocm_entry.specs.Ticks.{is_tick}
 use Rattle.ocm_rules.specs.History.{kept, answer_kept, changes, IsAnswered, IsLegal}
 use Rattle.ocm_law_lean.proofs.Answered.{lean-answered}
 use Rattle.ocm_law_sessions.specs.Readings.{with_moment, goes_on, opened}

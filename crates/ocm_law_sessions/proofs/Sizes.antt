@@ -8,7 +8,7 @@ use Rattle.ocm_entry_bytes.specs.Spells.{eight_bytes, spelling, Fits}
 use Rattle.ocm_entry_bytes.proofs.Lengths.{spelled_len}
 use Rattle.ocm_journal_image.specs.Layout.{AreRecords, blocks_size}
 use Rattle.ocm_rules.specs.Shares.{moment}
-use Rattle.ocm_rules.specs.Lean.{is_tick}
+use Rattle.ocm_entry.specs.Ticks.{is_tick}
 use Rattle.ocm_law_sessions.specs.Written.{record_of, ask_records, records_of, IsSpelled, asks_size, ends_with_tick}
 
 -- a record has so many bytes

@@ -14,12 +14,13 @@ use Rattle.ocm_entry_bytes.specs.Spells.{Fits, AreBytes}
 use Rattle.ocm_entry_bytes.proofs.FieldLaws.{AreBytes-front, AreBytes-rest, wide64}
 use Rattle.ocm_entry_bytes.proofs.Whole.{ask_of-spells}
 use Rattle.ocm_rules.specs.Shares.{clock_of, moment}
-use Rattle.ocm_rules.specs.Lean.{is_tick, without_body, still_stands, emptied_unless, emptied_among, without_passed_ticks, lean}
+use Rattle.ocm_rules.specs.Lean.{without_body, still_stands, emptied_unless, emptied_among, without_passed_ticks, lean}
+use Rattle.ocm_entry.specs.Ticks.{is_tick, is_tick as is_stamped_tick}
 use Rattle.ocm_rules.specs.History.{kept}
 use Rattle.ocm_law_lean.proofs.Thin.{of_tick}
-use Rattle.ocm_journal_audit.specs.declared.stamps.Stamped.{Stamped}
-use Rattle.ocm_journal_audit.specs.declared.stamps.Stamped.TheVariants as stamps
-use Rattle.ocm_journal_audit.specs.Stamps.{is_tick as is_stamped_tick, spelled, timed, moment_in, said_in_second, stamped_of}
+use Rattle.ocm_journal_records.specs.declared.stamps.Stamped.{Stamped}
+use Rattle.ocm_journal_records.specs.declared.stamps.Stamped.TheVariants as stamps
+use Rattle.ocm_journal_records.specs.Stamps.{spelled, timed, moment_in, said_in_second, stamped_of}
 use Rattle.ocm_law_sessions.specs.Readings.{entry_after, with_ask, with_moment, with_stamped, goes_on, opened_from}
 use Rattle.ocm_law_sessions.specs.Written.{IsSpelled, AreAllBytes}
 use Rattle.ocm_law_sessions.proofs.Entries.{clocks, moment-other, with_ask-gives}

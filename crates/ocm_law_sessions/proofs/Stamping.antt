@@ -15,12 +15,12 @@ use Rattle.ocm_entry_bytes.specs.Spells.{eight_bytes, spelling, Fits}
 use Rattle.ocm_entry_bytes.proofs.Whole.{ask_of-spelling}
 use Rattle.ocm_entry_bytes.proofs.Lengths.{spelled_len}
 use Rattle.ocm_rules.specs.Shares.{clock_of, moment}
-use Rattle.ocm_rules.specs.Lean.{is_tick}
+use Rattle.ocm_entry.specs.Ticks.{is_tick}
 use Rattle.ocm_rules.specs.History.{answer_kept, changes}
 use Rattle.ocm_law_lean.proofs.Thin.{of_tick}
-use Rattle.ocm_journal_audit.specs.declared.stamps.Stamped.{Stamped}
-use Rattle.ocm_journal_audit.specs.declared.stamps.Stamped.TheVariants as stamps
-use Rattle.ocm_journal_audit.specs.Stamps.{spelled, timed, moment_in, said_in_second, stamped_of}
+use Rattle.ocm_journal_records.specs.declared.stamps.Stamped.{Stamped}
+use Rattle.ocm_journal_records.specs.declared.stamps.Stamped.TheVariants as stamps
+use Rattle.ocm_journal_records.specs.Stamps.{spelled, timed, moment_in, said_in_second, stamped_of}
 use Rattle.ocm_law_sessions.specs.Readings.{with_ask, with_moment, with_stamped, goes_on}
 use Rattle.ocm_law_sessions.specs.Written.{record_of}
 use Rattle.ocm_law_sessions.proofs.Entries.{with_ask-changes, with_moment-stays, same_tick, clocks, tick-is, moment-other}

@@ -18,12 +18,13 @@ use Rattle.ocm_journal_image.specs.declared.readings.RawRecord.{RawRecord}
 use Rattle.ocm_journal_image.proofs.ImageRead.{image_read}
 use Rattle.ocm_journal_image.proofs.OneImage.{blank_is_none, contents-placed}
 use Rattle.ocm_rules.specs.History.{IsAnswered, changes, kept}
-use Rattle.ocm_rules.specs.Lean.{count, is_tick}
+use Rattle.ocm_rules.specs.Lean.{count}
+use Rattle.ocm_entry.specs.Ticks.{is_tick}
 use Rattle.ocm_rules.specs.Shares.{moment}
 use Rattle.ocm_journal_audit.specs.Audits.{is_own_host}
-use Rattle.ocm_journal_audit.specs.Stamps as stamps
-use Rattle.ocm_journal_audit.specs.declared.stamps.Stamped.{Stamped}
-use Rattle.ocm_journal_audit.specs.declared.stamps.Stamped.TheVariants as stamped
+use Rattle.ocm_journal_records.specs.Stamps as stamps
+use Rattle.ocm_journal_records.specs.declared.stamps.Stamped.{Stamped}
+use Rattle.ocm_journal_records.specs.declared.stamps.Stamped.TheVariants as stamped
 use Rattle.ocm_law_sessions.specs.Readings.{entry_after, goes_on, opened, opened_from, refused_at, with_ask, with_moment, with_stamped}
 use Rattle.ocm_law_sessions.specs.Written.{AreAllBytes}
 use Rattle.ocm_law_sessions.proofs.Entries.{answered-kept, with_ask-gives}

@@ -16,7 +16,8 @@ use Rattle.ocm_dav.specs.declared.wants.Wanted.TheVariants as wants
 use Rattle.ocm_script.specs.declared.events.Event.{Event}
 use Rattle.ocm_script.specs.declared.events.Event.TheVariants as events
 use Rattle.ocm_script.specs.Events.{host_of}
-use Rattle.ocm_script_run.specs.Asked.{ask_of, letter_ask}
+use Rattle.ocm_script_run.specs.Asked.{ask_of}
+use Rattle.ocm_entry.specs.Deliveries.{letter_ask}
 use Rattle.ocm_script_run.specs.Servers.{Server, World, new_server, reply_at, message_at, server_after, server_at, step_at, asked_at, crashed, is_kept, restart}
 use Rattle.ocm_script_run.specs.Deliveries.{Run, next_wanting, others_wanting, settlement, answered, given, unreachable, delivered, all_delivered, nothing, pumped, pump, deliver}
 use Rattle.ocm_script_run.specs.Talks.{Says, Replied, Answers, after_tick, asked_of, is_done, replied}

@@ -29,7 +29,7 @@ use Rattle.ocm_law_lean.proofs.Readings.{lean-thin, thin-any}
 use Rattle.ocm_law_lean.proofs.Thin.{of_tick, same_kept}
 use Rattle.ocm_law_sessions.specs.Sessions.{heard}
 use Rattle.ocm_law_sessions.specs.Crashes.{HasLeanWith, IsNext, unheard}
-use Rattle.ocm_law_world.specs.Deliveries.{letter_ask}
+use Rattle.ocm_entry.specs.Deliveries.{letter_ask}
 use Rattle.ocm_law_world.specs.World.{Answer, Run, Session, Step, World, answer_to, changed, empty_among, history_of, kept_at, new_session, reopened, settlement_by, with_call}
 use Rattle.ocm_law_world.specs.World.Run.{Stays, Goes_on}
 use Rattle.ocm_law_world.specs.World.Step.{Begins, Asks, Delivers, Foreign, Comes, Crashes}

@@ -18,7 +18,7 @@ use Rattle.ocm_rules.proofs.Searches.{some-same}
 use Rattle.ocm_law_sessions.specs.Sessions.{IsReply, count_of, fault_in, would_change}
 use Rattle.ocm_law_sessions.specs.Crashes.{faulted, if_changing, unheard}
 use Rattle.ocm_law_sessions.proofs.Replying.{reply-given}
-use Rattle.ocm_law_world.specs.Deliveries.{letter_ask, delivered_status}
+use Rattle.ocm_entry.specs.Deliveries.{delivered_status, letter_ask}
 use Rattle.ocm_law_world.specs.World.{Session, Answer, World, Flight, Run, Step, answer_to, changed, empty_among, history_of, is_settlement, new_session, reopened, settlement_by, with_call, IsReached}
 use Rattle.ocm_law_world.specs.World.Flight.{Nothing, Asked, Answered}
 use Rattle.ocm_law_world.specs.World.Run.{Stays, Goes_on}

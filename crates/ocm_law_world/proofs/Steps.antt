@@ -15,7 +15,7 @@ use Rattle.ocm_rules.proofs.Numbering.{not_none}
 use Rattle.ocm_law_sessions.specs.Sessions.{IsReply, IsSession, fault_in, heard}
 use Rattle.ocm_law_sessions.specs.Crashes.{HasLeanWith, IsNext, unheard}
 use Rattle.ocm_law_sessions.proofs.Replying.{reply-given, session-legal, view-same}
-use Rattle.ocm_law_world.specs.Deliveries.{letter_ask}
+use Rattle.ocm_entry.specs.Deliveries.{letter_ask}
 use Rattle.ocm_law_world.specs.World.{Session, Answer, World, answer_to, changed, empty, empty_among, history_of, new_session, reopened, settlement_by, with_call, IsReached, Run, Step}
 use Rattle.ocm_law_world.specs.World.Run.{Stays, Goes_on}
 use Rattle.ocm_law_world.specs.World.Step.{Begins, Asks, Delivers, Foreign, Comes, Crashes}

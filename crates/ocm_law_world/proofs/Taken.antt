@@ -23,7 +23,7 @@ use Rattle.ocm_rules.specs.Answers.{refused, numbered_share, share_with, fails, 
 use Rattle.ocm_rules.specs.History.{kept, is_failure, IsGiven}
 use Rattle.ocm_rules.proofs.Lists.{not_both}
 use Rattle.ocm_rules.proofs.Searches.{neither, some-same}
-use Rattle.ocm_law_world.specs.Deliveries.{delivered_status}
+use Rattle.ocm_entry.specs.Deliveries.{delivered_status}
 use Rattle.ocm_law_world.specs.Guests.{Makes}
 use Rattle.ocm_law_world.proofs.Texts.{text-equal, address-equal}
 

@@ -12,7 +12,7 @@ use Rattle.ocm_rules.specs.Lean.{lean}
 use Rattle.ocm_rules.specs.History.{answer}
 use Rattle.ocm_law_lean.proofs.Answered.{lean-lean, lean-legal}
 use Rattle.ocm_law_sessions.specs.Sessions.{IsReply, IsToldReply, fault_in, fits, would_change}
-use Rattle.ocm_law_world.specs.Deliveries.{letter_ask}
+use Rattle.ocm_entry.specs.Deliveries.{letter_ask}
 use Rattle.ocm_law_world.specs.World.{Answer, IsReached, Session, Step, World, answer_to, changed, history_of, kept_at, reopened, settlement_by, with_call}
 use Rattle.ocm_law_world.specs.World.Flight.{Nothing}
 use Rattle.ocm_law_world.specs.World.Run.{Goes_on}

@@ -7,7 +7,7 @@ use Rattle.ocm_rules.specs.declared.rows.Told.{Told}
 use Rattle.ocm_rules.specs.Lean.{lean}
 use Rattle.ocm_law_sessions.specs.Sessions.{heard}
 use Rattle.ocm_law_sessions.specs.Crashes.{unheard}
-use Rattle.ocm_law_world.specs.Deliveries.{letter_ask}
+use Rattle.ocm_entry.specs.Deliveries.{letter_ask}
 use Rattle.ocm_law_world.specs.World.{Run, Step, World, history_of}
 use Rattle.ocm_law_world.specs.World.Run.{Stays, Goes_on}
 use Rattle.ocm_law_world.specs.World.Step.{Begins, Asks, Delivers, Foreign, Comes, Crashes}

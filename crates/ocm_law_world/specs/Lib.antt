@@ -1,4 +1,3 @@
-pub mod Deliveries
 pub mod World
 pub mod Ends
 pub mod Guests

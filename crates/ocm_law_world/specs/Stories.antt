@@ -9,7 +9,7 @@ use Rattle.ocm_rules.specs.Messages.{out}
 use Rattle.ocm_rules.specs.History.{answer}
 use Rattle.ocm_rules.specs.Lean.{lean}
 use Rattle.ocm_law_sessions.specs.Sessions.{fault_in, fits}
-use Rattle.ocm_law_world.specs.Deliveries.{letter_ask}
+use Rattle.ocm_entry.specs.Deliveries.{letter_ask}
 use Rattle.ocm_law_world.specs.World.{Answer, Session, World, answer_to, changed, history_of, is_settlement, kept_at, new_session, reopened, settlement_by, with_answer, with_call}
 
 -- what happens: a server begins; it is asked, and replies; a message of it is delivered, with drawn bytes, and replied to; a

@@ -13,7 +13,7 @@ use Rattle.ocm_rules.specs.Messages.{out}
 use Rattle.ocm_rules.specs.History.{kept}
 use Rattle.ocm_law_sessions.specs.Sessions.{IsReply}
 use Rattle.ocm_law_sessions.specs.Crashes.{IsNext}
-use Rattle.ocm_law_world.specs.Deliveries.{letter_ask, delivered_status, delivered_id}
+use Rattle.ocm_entry.specs.Deliveries.{delivered_id, delivered_status, letter_ask}
 
 -- ---- servers
 

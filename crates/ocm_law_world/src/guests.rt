@@ -10,7 +10,7 @@ ghost use Rattle.ocm_rules.specs.Numbers.{at_number};
 ghost use Rattle.ocm_rules.specs.Offers.{offers};
 ghost use Rattle.ocm_rules.specs.Settlements.{is_success};
 ghost use Rattle.ocm_law_sessions.specs.Sessions.{IsReply, IsSession};
-ghost use Rattle.ocm_law_world.specs.Deliveries.{delivered_status};
+ghost use Rattle.ocm_entry.specs.Deliveries.{delivered_status};
 ghost use Rattle.ocm_law_world.specs.Guests.{IsMade, Makes, view_at};
 ghost use Rattle.ocm_law_world.specs.World.{Answer, IsReached, Run, Session, World, empty, kept_at};
 

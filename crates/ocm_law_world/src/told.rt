@@ -8,7 +8,7 @@ ghost use Rattle.ocm_rules.specs.Numbers.{at_number};
 ghost use Rattle.ocm_rules.specs.Offers.{offers, told};
 ghost use Rattle.ocm_rules.specs.Shares.{address_of};
 ghost use Rattle.ocm_rules.specs.Users.{users};
-ghost use Rattle.ocm_law_world.specs.Deliveries.{letter_ask};
+ghost use Rattle.ocm_entry.specs.Deliveries.{letter_ask};
 ghost use Rattle.ocm_law_world.specs.Guests.{HearsOwnerAlone, IsAfterLimit};
 ghost use Rattle.ocm_law_world.specs.Hearing.{HearsInRun, IsOwnersWord};
 ghost use Rattle.ocm_law_world.specs.World.{IsReached, Run, Session, World, empty_among, kept_at};

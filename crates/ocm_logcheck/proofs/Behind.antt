@@ -6,7 +6,7 @@ use Rattle.ocm_entry.specs.declared.asks.Ask.{Ask}
 use Rattle.ocm_entry.specs.declared.asks.Ask.TheVariants as asks
 use Rattle.ocm_entry.specs.declared.entries.Entry.{Entry}
 use Rattle.ocm_rules.specs.History.{IsAnswered, IsLegal, answer, answer_kept, changes, kept}
-use Rattle.ocm_rules.specs.Lean.{is_tick}
+use Rattle.ocm_entry.specs.Ticks.{is_tick}
 use Rattle.ocm_rules.specs.Shares.{moment}
 use Rattle.ocm_rules.specs.State.{State, state_of}
 use Rattle.ocm_rules.proofs.Kept.{kept-answered}

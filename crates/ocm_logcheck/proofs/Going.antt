@@ -11,14 +11,15 @@ use Rattle.ocm_entry.specs.declared.entries.Entry.{Entry}
 use Rattle.ocm_journal_image.specs.declared.readings.RawRecord.{RawRecord}
 use Rattle.ocm_journal_image.specs.Layout.{contents}
 use Rattle.ocm_rules.specs.History.{IsAnswered, changes}
-use Rattle.ocm_rules.specs.Lean.{count, is_tick}
+use Rattle.ocm_rules.specs.Lean.{count}
+use Rattle.ocm_entry.specs.Ticks.{is_tick}
 use Rattle.ocm_rules.specs.Shares.{clock_of, moment}
 use Rattle.ocm_rules.specs.State.{State, empty_of}
 use Rattle.ocm_tables.specs.Tables.{ServerLists}
 use Rattle.ocm_core.specs.Standing.{IsAfter}
-use Rattle.ocm_journal_audit.specs.Stamps.{stamped_of}
-use Rattle.ocm_journal_audit.specs.declared.stamps.Stamped.{Stamped}
-use Rattle.ocm_journal_audit.specs.declared.stamps.Stamped.TheVariants as stamps
+use Rattle.ocm_journal_records.specs.Stamps.{stamped_of}
+use Rattle.ocm_journal_records.specs.declared.stamps.Stamped.{Stamped}
+use Rattle.ocm_journal_records.specs.declared.stamps.Stamped.TheVariants as stamps
 use Rattle.ocm_law_sessions.specs.Readings.{entry_after, goes_on, opened, refused_at, with_ask, with_moment, with_stamped}
 use Rattle.ocm_law_sessions.specs.Sessions.{heard, would_change}
 use Rattle.ocm_law_sessions.proofs.Entries.{moment-other, with_moment-stays}

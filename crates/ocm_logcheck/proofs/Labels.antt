@@ -7,7 +7,7 @@ use Rattle.ocm_journal_image.specs.declared.readings.RawRecord.{RawRecord}
 use Rattle.ocm_types.specs.Hosts.{canonical_host_of}
 use Rattle.ocm_types.proofs.HostReading.{canonical_host_of-is}
 use Rattle.ocm_journal_audit.specs.Audits.{is_own_host}
-use Rattle.ocm_journal_audit.specs.Stamps.{moment_past, refused_from}
+use Rattle.ocm_journal_records.specs.Stamps.{moment_past, refused_from}
 
 -- the host whose own text a label is
 abbrev pub IsHostOf : List ℕ → Option (List ℕ) → Type 0

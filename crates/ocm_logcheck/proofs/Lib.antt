@@ -6,5 +6,4 @@ pub mod Looking
 pub mod Going
 pub mod EmptyLists
 pub mod Labels
-pub mod Proper
 pub mod Telling

@@ -9,7 +9,7 @@ use Rattle.ocm_entry.specs.declared.replies.Reply.{Reply}
 use Rattle.ocm_entry.specs.declared.entries.Entry.{Entry}
 use Rattle.ocm_rules.specs.declared.rows.SentRow.{SentRow}
 use Rattle.ocm_rules.specs.History.{IsAnswered}
-use Rattle.ocm_rules.specs.Lean.{is_tick}
+use Rattle.ocm_entry.specs.Ticks.{is_tick}
 use Rattle.ocm_rules.specs.Shares.{clock_of, moment}
 use Rattle.ocm_rules.specs.State.{State, state_of, step, view_in}
 use Rattle.ocm_rules.proofs.States.{state_of-read}

@@ -6,7 +6,8 @@ use Rattle.std.proofs.lemmas.Bool.Decides.{nat_tests}
 use mathlib.Core.Logic.{inl, inr}
 use Rattle.ocm_entry.specs.declared.entries.Entry.{Entry}
 use Rattle.ocm_rules.specs.History.{IsAnswered}
-use Rattle.ocm_rules.specs.Lean.{count, is_tick}
+use Rattle.ocm_rules.specs.Lean.{count}
+use Rattle.ocm_entry.specs.Ticks.{is_tick}
 use Rattle.ocm_rules.specs.Shares.{moment}
 use Rattle.ocm_rules.proofs.Lists.{count_by-cons}
 use Rattle.ocm_law_sessions.proofs.Entries.{answered-kept, moment-other}

@@ -14,7 +14,7 @@ use Rattle.ocm_journal_image.specs.declared.readings.Image.{Image}
 use Rattle.ocm_journal_image.specs.declared.readings.RawRecord.{RawRecord}
 use Rattle.ocm_journal_audit.specs.Audits.{Audits, is_own_host}
 use Rattle.ocm_journal_audit.specs.Audits as audits
-use Rattle.ocm_journal_audit.specs.Stamps as stamps
+use Rattle.ocm_journal_records.specs.Stamps as stamps
 use Rattle.ocm_law_sessions.specs.Readings.{opened, refused_at}
 use Rattle.ocm_law_sessions.proofs.Opening.{opened-unrefused}
 use Rattle.ocm_access_log.specs.declared.lines.LogLine.{LogLine}

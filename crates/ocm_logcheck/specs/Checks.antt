@@ -9,7 +9,7 @@ use Rattle.ocm_journal_image.specs.declared.faults.ImageFault.{ImageFault}
 use Rattle.ocm_journal_image.specs.declared.faults.ImageFault.TheVariants as image_faults
 use Rattle.ocm_journal_image.specs.declared.readings.Image.{Image}
 use Rattle.ocm_journal_audit.specs.Audits.{is_own_host}
-use Rattle.ocm_journal_audit.specs.Stamps as stamps
+use Rattle.ocm_journal_records.specs.Stamps as stamps
 use Rattle.ocm_law_sessions.specs.Readings.{opened, refused_at}
 use Rattle.ocm_access_log.specs.declared.lines.LogLine.{LogLine}
 use Rattle.ocm_logcheck.specs.declared.faults.LogFault.{LogFault}

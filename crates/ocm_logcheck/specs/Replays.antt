@@ -4,7 +4,8 @@ use Rattle.ocm_entry.specs.declared.entries.Entry.{Entry}
 use Rattle.ocm_journal_image.specs.Layout.{contents}
 use Rattle.ocm_journal_image.specs.declared.readings.RawRecord.{RawRecord}
 use Rattle.ocm_rules.specs.History.{IsAnswered}
-use Rattle.ocm_rules.specs.Lean.{count, is_tick}
+use Rattle.ocm_rules.specs.Lean.{count}
+use Rattle.ocm_entry.specs.Ticks.{is_tick}
 use Rattle.ocm_rules.specs.Shares.{moment}
 use Rattle.ocm_law_sessions.specs.Readings.{opened, refused_at}
 use Rattle.ocm_access_log.specs.declared.lines.LogLine.{LogLine}

@@ -1,11 +1,8 @@
 -- How the lists of a server go on by the records of its journal, where ticks are put off until the next ask that is none.
-use Rattle.std.specs.Prelude.{◌≡◌, ◌≤◌, ℕ, List, [], ◌∷◌, Bool, true, nat_le, if◌then◌else◌, ◌&&◌, Option, Some, None, IsTrue}
+use Rattle.std.specs.Prelude.{◌≡◌, ◌≤◌, ℕ, List, [], ◌∷◌, Bool, true, nat_le, if◌then◌else◌, ◌&&◌, Option, Some, None}
 use Rattle.ocm_entry.specs.declared.entries.Entry.{Entry}
-use Rattle.ocm_entry.specs.Proper.{is_proper}
-use Rattle.ocm_journal_audit.specs.declared.stamps.Stamped.{Stamped}
-use Rattle.ocm_journal_audit.specs.declared.stamps.Stamped.TheVariants as stamps
 use Rattle.ocm_rules.specs.History.{IsAnswered, answer_kept}
-use Rattle.ocm_rules.specs.Lean.{is_tick}
+use Rattle.ocm_entry.specs.Ticks.{is_tick}
 use Rattle.ocm_rules.specs.Shares.{moment}
 use Rattle.ocm_rules.specs.State.{State}
 use Rattle.ocm_core.specs.Standing.{IsAfter}
@@ -35,9 +32,3 @@ is_true_until host q end line =
 -- the kept entries with a tick of this clock where it is above their moment, and none where it is below
 abbrev pub with_clock : List ℕ → ℕ → List Entry → Option (List Entry)
 with_clock host clock k = if nat_le (moment k) clock then Some (with_moment host clock k) else None
-
--- the ask of what a record says is proper, where it says one
-abbrev pub HasProperAsk : Stamped → Type 0
-HasProperAsk (stamps.Bare ask) = IsTrue (is_proper ask)
-HasProperAsk (stamps.Moment clock) = Unit {0}
-HasProperAsk (stamps.Timed clock ask) = IsTrue (is_proper ask)

@@ -1,11 +1,11 @@
 //! What an audit refuses of the label and the records of an image.
 ghost use Rattle.std.specs.Prelude.{◌≡◌, IfOk, if◌then◌else◌, Some, None};
 ghost use Rattle.ocm_journal_audit.specs.Audits.{is_own_host};
-ghost use Rattle.ocm_journal_audit.specs.Stamps.{refused_from};
+ghost use Rattle.ocm_journal_records.specs.Stamps.{refused_from};
 
 use ocm_base::NoMemory;
-use ocm_journal_audit::moment_past;
 use ocm_journal_image::RawRecord;
+use ocm_journal_records::moment_past;
 use ocm_types::Host;
 use std::alloc::Global;
 

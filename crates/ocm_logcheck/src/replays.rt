@@ -2,14 +2,15 @@
 ghost use Rattle.std.specs.Prelude.{◌≡◌, ◌≤◌, ◌<◌, ◌+◌, ℕ, List, [], length, option_copied, Ok, Err, IfOk, IfErr, OnOk, IfSome, IsTrue, None, true, if◌then◌else◌};
 ghost use Rattle.ocm_entry.specs.declared.entries.Entry.{Entry};
 ghost use Rattle.ocm_entry.specs.Proper.{is_proper};
-ghost use Rattle.ocm_journal_audit.specs.Stamps.{stamped_of};
-ghost use Rattle.ocm_journal_audit.specs.declared.stamps.Stamped.TheVariants as stamps;
+ghost use Rattle.ocm_journal_records.specs.Stamps.{stamped_of};
+ghost use Rattle.ocm_journal_records.specs.declared.stamps.Stamped.TheVariants as stamps;
 ghost use Rattle.ocm_journal_image.specs.Layout.{contents};
 ghost use Rattle.ocm_rules.specs.Lean.{count};
 ghost use Rattle.ocm_rules.specs.Shares.{clock_of};
 ghost use Rattle.ocm_law_sessions.specs.Readings.{goes_on, with_ask, with_stamped};
 ghost use Rattle.ocm_access_log.specs.Reads.{AreLogged, is_read};
-ghost use Rattle.ocm_logcheck.specs.Steps.{HasProperAsk, with_clock};
+ghost use Rattle.ocm_history_records.specs.Asking.{HasProperAsk};
+ghost use Rattle.ocm_logcheck.specs.Steps.{with_clock};
 ghost use Rattle.ocm_logcheck.specs.Replays.{GivesCount, GoesOn, IsLookedUp, IsReplayOf, lines_left, next_at};
 
 use crate::faults::LogFault;
@@ -18,8 +19,9 @@ use ocm_access_log::LogLine;
 use ocm_base::NoMemory;
 use ocm_core::Core;
 use ocm_entry::Ask;
-use ocm_journal_audit::{Stamped, read_stamped};
+use ocm_history_records::read_proper;
 use ocm_journal_image::RawRecord;
+use ocm_journal_records::Stamped;
 use ocm_types::Host;
 use std::alloc::Global;
 
@@ -236,15 +238,6 @@ impl Replay {
             Err(NoMemory) => Err(NoMemory),
         }
     }
-}
-
-/// What a record of an area of this form says. Its ask is proper.
-fn read_proper(alloc: Global, form: u8, bytes: &[u8]) -> Result<Option<Stamped>, NoMemory>
-    ensures says { IfOk result (λ said. said ≡ stamped_of form bytes.now) }
-    ensures proper { IfOk result (λ said. IfSome said HasProperAsk) }
-{
-    let said = read_stamped(alloc, form, bytes)?;
-    Ok(said)
 }
 
 /// Goes on from nothing by the records of an area of this form, and looks up all lines. `NotJournal` has the place of the

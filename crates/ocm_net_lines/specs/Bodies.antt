@@ -3,6 +3,7 @@ use Rattle.std.specs.Prelude.{◌≡◌, ℕ, Bool, true, false, not, ◌&&◌, 
 use Rattle.std.specs.Char.{to_ascii_lowercase}
 use Rattle.std.specs.List.{list_all, list_any, slice_split}
 use Rattle.std.specs.Result.{result_ok}
+use Rattle.httparse.specs.Grammar.{is_ows, skip_ows}
 use Rattle.ocm_limits.specs.Limits.{most_body_bytes}
 use Rattle.ocm_http_heads.specs.Endings.{blanks, found, of_head}
 use Rattle.ocm_http_heads.specs.Heads.{SaysRequest, is_comma, is_same}
@@ -26,15 +27,6 @@ has_body ToEnd = true
 abbrev pub ends_with_one : ℕ → List ℕ → Bool
 ends_with_one last [] = false
 ends_with_one last (b ∷ text) = if b == 10 then last == 49 else ends_with_one (if b == 13 then last else b) text
-
--- whether a byte is a blank of a field (RFC 9110 section 5.6.3)
-abbrev pub is_ows : ℕ → Bool
-is_ows b = b == 32 || b == 9
-
--- a text from its first byte on that is no blank
-abbrev pub skip_ows : List ℕ → List ℕ
-skip_ows [] = []
-skip_ows (b ∷ text) = if is_ows b then skip_ows text else b ∷ text
 
 -- whether a member of a list says `100-continue`, in any case, with blanks around
 abbrev pub is_continue : List ℕ → Bool

@@ -1,12 +1,14 @@
 //! What a request's head announces of its body.
 ghost use Rattle.std.specs.Prelude.{◌≡◌, ◌≤◌, IfOk, map};
 ghost use Rattle.std.specs.Char.{to_ascii_lowercase};
-ghost use Rattle.std.specs.List.{list_all, list_any, slice_split};
+ghost use Rattle.std.specs.List.{list_any, slice_split};
 ghost use Rattle.ocm_http_heads.specs.Heads.{is_comma, is_same};
 ghost use Rattle.ocm_net_lines.specs.Bodies as bodies;
 
 use ocm_base::NoMemory;
-use ocm_http_heads::{Field, Found, Head, Length, Look, blanks, length_of_request, read_request};
+use ocm_http_heads::{
+    Field, Found, Head, Length, Look, are_ows, blanks, length_of_request, read_request, skip_ows,
+};
 use ocm_limits::MOST_BODY_BYTES;
 use std::alloc::Global;
 
@@ -75,31 +77,6 @@ pub fn may_announce(head: &[u8]) -> bool {
         rest = rest.get(end.saturating_add(1)..).unwrap_or_default();
     }
     true
-}
-
-fn is_ows(byte: u8) -> bool
-    ensures { result ≡ bodies.is_ows byte }
-{
-    byte == b' ' || byte == b'\t'
-}
-
-fn are_ows(bytes: &[u8]) -> bool
-    ensures { result ≡ list_all bodies.is_ows bytes.now }
-{
-    bytes.iter().all(|byte| is_ows(*byte))
-}
-
-fn skip_ows(bytes: &[u8]) -> &[u8]
-    ensures { result.now ≡ bodies.skip_ows bytes.now }
-{
-    let mut rest = bytes;
-    while let [first, behind @ ..] = rest {
-        if !is_ows(*first) {
-            return rest;
-        }
-        rest = behind;
-    }
-    rest
 }
 
 /// Whether a member of a list says `100-continue`, in any case, with blanks around.

@@ -5,10 +5,10 @@ ghost use Rattle.ocm_rules.specs.Settlements.{settles};
 ghost use Rattle.ocm_rules.specs.State.{changed_at, new_sent_row};
 ghost use Rattle.ocm_outgoing.specs.Lists.{messages, is_settled, message_at, numbered_at, subject_at, settled_row, due_in};
 
-use crate::rows::{Sent, Thread, is_change, settles};
+use crate::rows::{Sent, Thread};
 use crate::walks::{begins_at, copies, first_numbers, first_waiting, link_last, mark, move_first};
 use ocm_base::{List, NoMemory};
-use ocm_rules::{Subject, row_at};
+use ocm_rules::{Subject, is_change, row_at, settles};
 use ocm_types::{Host, Letter, Numbered, ProviderId};
 use std::alloc::Global;
 use std::collections::HashMap;

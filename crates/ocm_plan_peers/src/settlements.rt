@@ -17,9 +17,8 @@ ghost use Rattle.ocm_plan_peers.specs.Settled.{settled_in};
 
 use ocm_base::NoMemory;
 use ocm_entry::{Reply, Why};
-use ocm_letters::{is_acceptance, is_success, wants_id};
 use ocm_plan::Planned;
-use ocm_rules::Subject;
+use ocm_rules::{Subject, is_acceptance, is_success, wants_id};
 use ocm_tables::{Change, Outcome, Tables};
 use ocm_types::{Letter, Phase, ProviderId, RequestPhase};
 

@@ -14,8 +14,8 @@ use crate::searches::discover;
 use crate::sites::Site;
 use ocm_base::{Bytes, NoMemory};
 use ocm_http::{Head, Message, write_request};
-use ocm_letters::settles;
 use ocm_records::{RecordFault, write_notice, write_offer};
+use ocm_rules::settles;
 use ocm_types::{Letter, Notice, Numbered, ProviderId};
 use std::alloc::Global;
 

@@ -2,15 +2,11 @@ use Rattle.std.specs.Prelude.{ℕ, ◌+◌, List, [], ◌∷◌, ◌++◌, lengt
 use Rattle.ocm_entry.specs.declared.asks.Ask.{Ask}
 use Rattle.ocm_entry.specs.declared.asks.Ask.TheVariants.{Dav, Tick}
 use Rattle.ocm_entry.specs.declared.asks.Method.TheVariants.{Put}
+use Rattle.ocm_entry.specs.Ticks.{is_tick}
 use Rattle.ocm_entry.specs.declared.entries.Entry.{Entry}
 use Rattle.ocm_entry.specs.declared.rows.Place.{Place}
 use Rattle.ocm_rules.specs.Files.{Act, Placed, Gone, Carried, act_after, same_place, is_at_or_above, moved}
 use Rattle.ocm_rules.specs.History.{kept}
-
--- whether an ask is a tick
-abbrev pub is_tick : Ask → Bool
-is_tick (Tick clock) = true
-is_tick _ = false
 
 -- the number of the kept entries that are no tick
 abbrev pub count : List ℕ → List Entry → ℕ

@@ -11,7 +11,9 @@ pub mod limit_cases;
 mod numbers;
 pub mod request_cases;
 mod rows;
+mod settlements;
 pub mod step_laws;
 
 pub use numbers::row_at;
 pub use rows::{Message, ReceivedRow, SentRow, ShareRow, Subject, Told};
+pub use settlements::{is_acceptance, is_change, is_refusal, is_success, settles, wants_id};

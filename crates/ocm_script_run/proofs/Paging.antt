@@ -8,7 +8,7 @@ use Rattle.ocm_entry.specs.declared.replies.Reply.{Reply}
 use Rattle.ocm_entry.specs.declared.replies.Reply.TheVariants as replies
 use Rattle.ocm_dav_pages.specs.Pages.{HasPage}
 use Rattle.ocm_dav.specs.Sound.{is_requested}
-use Rattle.ocm_rules.specs.Lean.{is_tick}
+use Rattle.ocm_entry.specs.Ticks.{is_tick}
 
 not_due : (ask : Ask) → IsTrue (is_due ask) → IsTrue (is_requested ask || is_tick ask) → ⊥
 not_due (asks.AddUser name fresh) is asked = cc

@@ -61,8 +61,3 @@ fault_text (faults.Kind field) = codes "400 wrong kind " ++ name_of field
 fault_text (faults.Value field) = codes "400 bad value " ++ name_of field
 fault_text (faults.Unsupported field) = codes "501 not supported " ++ name_of field
 fault_text faults.NoMemory = codes "500 no memory"
-
--- the ask that a letter is at the server that it is for, with these drawn bytes
-abbrev pub letter_ask : Letter → List ℕ → Ask
-letter_ask (letters.Offer offer) fresh = asks.Offer offer
-letter_ask (letters.Notice notice) fresh = asks.Notice notice fresh

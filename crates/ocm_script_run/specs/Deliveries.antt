@@ -7,9 +7,8 @@ use Rattle.ocm_entry.specs.declared.asks.Ask.{Ask}
 use Rattle.ocm_entry.specs.declared.asks.Ask.TheVariants.{Due, Settle}
 use Rattle.ocm_entry.specs.declared.replies.Reply.{Reply}
 use Rattle.ocm_entry.specs.declared.replies.Reply.TheVariants as replies
-use Rattle.ocm_entry.specs.Refusals.{status_of}
+use Rattle.ocm_entry.specs.Deliveries.{delivered_status, delivered_id, letter_ask}
 use Rattle.ocm_transcript.specs.Texts.{line_text, reply_lines, told_line}
-use Rattle.ocm_script_run.specs.Asked.{letter_ask}
 use Rattle.ocm_script_run.specs.Servers.{World, asked_at, message_at, reply_at}
 
 -- the servers after a line, and what it prints
@@ -25,20 +24,6 @@ next_wanting (wanting ∷ others) = wanting
 abbrev pub others_wanting : List Bool → List Bool
 others_wanting [] = []
 others_wanting (wanting ∷ others) = others
-
--- the status of a reply to an offer or a notification (OCM API 1.1): 201 where it was taken
-abbrev pub delivered_status : Reply → ℕ
-delivered_status (replies.Refused why) = status_of why
-delivered_status replies.JournalFull = 507
-delivered_status replies.NoMemory = 500
-delivered_status (replies.DiskFault count) = 503
-delivered_status (replies.Stopped count) = 503
-delivered_status _ = 201
-
--- the id that comes back with it: that of a further share
-abbrev pub delivered_id : Reply → Option (List ℕ)
-delivered_id (replies.Child id) = Some (decimal id)
-delivered_id _ = None
 
 -- what the sender is told: that its message of this number was answered so
 abbrev pub settlement : ℕ → Reply → Ask

@@ -6,6 +6,7 @@ ghost use Rattle.ocm_entry.specs.declared.asks.Method.TheVariants as methods;
 ghost use Rattle.ocm_entry.specs.Proper.{is_proper};
 ghost use Rattle.ocm_records.specs.Fields.{name_of};
 ghost use Rattle.ocm_script.specs.Events.{bytes_of};
+ghost use Rattle.ocm_entry.specs.Deliveries as deliveries;
 ghost use Rattle.ocm_script_run.specs.Asked as asked;
 
 use crate::line_parts::joined;
@@ -230,7 +231,7 @@ fn named(alloc: Global, front: &[u8], field: Field) -> Result<Bytes, NoMemory>
 
 /// The ask that a letter is at the server that it is for, with these drawn bytes.
 pub fn letter_ask(letter: &Letter, fresh: Fresh) -> Result<Ask, NoMemory>
-    ensures ask { IfOk result (λ ask. ask ≡ asked.letter_ask letter.now fresh) }
+    ensures ask { IfOk result (λ ask. ask ≡ deliveries.letter_ask letter.now fresh) }
     ensures proper { IfOk result (λ ask. IsTrue (is_proper ask)) }
 {
     match letter {

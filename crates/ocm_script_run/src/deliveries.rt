@@ -4,6 +4,7 @@ ghost use Rattle.ocm_entry.specs.declared.asks.Ask.TheVariants as asks;
 ghost use Rattle.ocm_entry.specs.Proper.{is_proper};
 ghost use Rattle.ocm_script_run.specs.Servers.{World};
 ghost use Rattle.ocm_transcript.specs.Texts as texts;
+ghost use Rattle.ocm_entry.specs.Deliveries as answers;
 ghost use Rattle.ocm_script_run.specs.Deliveries as deliveries;
 ghost use Rattle.ocm_script_run.specs.Deliveries.{next_wanting};
 ghost use Rattle.ocm_script_run.specs.Running.{Asks, Runs};
@@ -235,7 +236,7 @@ fn settlement(alloc: Global, number: u32, reply: &Reply) -> Result<Ask, NoMemory
 
 /// The status of a reply to an offer or a notification (OCM API 1.1).
 fn delivered_status(reply: &Reply) -> u16
-    ensures { result ≡ deliveries.delivered_status reply.now }
+    ensures { result ≡ answers.delivered_status reply.now }
 {
     match reply {
         Reply::Refused { why } => why.status(),
@@ -248,7 +249,7 @@ fn delivered_status(reply: &Reply) -> u16
 
 /// The id that comes back with a reply: that of a further share.
 fn delivered_id(alloc: Global, reply: &Reply) -> Result<Option<ProviderId>, NoMemory>
-    ensures { IfOk result (λ id. id ≡ deliveries.delivered_id reply.now) }
+    ensures { IfOk result (λ id. id ≡ answers.delivered_id reply.now) }
 {
     match reply {
         Reply::Child { id } => {

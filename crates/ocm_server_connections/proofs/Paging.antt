@@ -12,7 +12,7 @@ use Rattle.ocm_dav.specs.Sound.{is_requested}
 use Rattle.ocm_turn.specs.declared.turnstile.Spent.{Spent}
 use Rattle.ocm_turn.specs.Calls.{IsOlderPart, entry}
 use Rattle.ocm_turn.specs.Passes.{Known}
-use Rattle.ocm_server_connections.specs.Ticks.{is_tick}
+use Rattle.ocm_entry.specs.Ticks.{is_tick}
 
 not_due : (ask : Ask) → IsTrue (is_due ask) → IsTrue (is_requested ask || is_tick ask) → ⊥
 not_due (asks.AddUser name fresh) is asked = cc

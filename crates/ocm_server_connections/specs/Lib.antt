@@ -3,4 +3,3 @@ pub mod Parts
 pub mod Responding
 pub mod Sides
 pub mod Talk
-pub mod Ticks

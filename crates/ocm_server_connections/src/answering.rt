@@ -12,7 +12,7 @@ ghost use Rattle.ocm_dav_pages.specs.Pages.{HasPage};
 ghost use Rattle.ocm_turn.specs.Passes.{BelongsTo};
 ghost use Rattle.ocm_turn.specs.Moves.{Moved, Unspent};
 ghost use Rattle.ocm_turn.specs.Calls.{entry};
-ghost use Rattle.ocm_server_connections.specs.Ticks.{is_tick};
+ghost use Rattle.ocm_entry.specs.Ticks.{is_tick};
 ghost use Rattle.ocm_server_connections.specs.Talk as talk;
 ghost use Rattle.ocm_server_connections.specs.Talk.{Answers, is_no_memory, is_spent};
 ghost use Rattle.ocm_server_connections.specs.Parts.{RepliedOr};

@@ -18,7 +18,8 @@ use Rattle.ocm_law_sessions.proofs.Replying.{kept-changed}
 use Rattle.ocm_law_sessions.proofs.Sizes.{records-size}
 use Rattle.ocm_plan.specs.Plans.{Plan}
 use Rattle.ocm_rules.specs.History.{kept}
-use Rattle.ocm_rules.specs.Lean.{emptied_among, is_tick, lean, still_stands, without_passed_ticks}
+use Rattle.ocm_rules.specs.Lean.{emptied_among, lean, still_stands, without_passed_ticks}
+use Rattle.ocm_entry.specs.Ticks.{is_tick}
 
 ends-lean : (host : List ℕ) (k : List Entry) (e : Entry) → ends_with_tick (without_passed_ticks false (emptied_among host (e ∷ k) (e ∷ k))) ≡ is_tick e.ask
 ends-lean host k e = is_tick-kept (still_stands host (e ∷ k) (length k + 1)) e.ask

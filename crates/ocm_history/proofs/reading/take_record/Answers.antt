@@ -1,5 +1,5 @@
 use Rattle.std.proofs.Common.{sym, ◌∙◌, ap}
-use Rattle.ocm_journal_audit.specs.Stamps.{stamped_of}
+use Rattle.ocm_journal_records.specs.Stamps.{stamped_of}
 use Rattle.ocm_history.specs.Histories.{home_of}
 use Rattle.ocm_history.specs.Replays.{GoesOn}
 use Rattle.ocm_law_sessions.specs.Readings.{goes_on, with_stamped}

@@ -1,7 +1,7 @@
 use Rattle.std.proofs.Common.{subst}
 use Rattle.ocm_history.specs.Histories.{home_of}
 use Rattle.ocm_history.specs.Replays.{GoesOn, with_clock}
-use Rattle.ocm_journal_audit.specs.declared.stamps.Stamped.TheVariants.{Timed}
+use Rattle.ocm_journal_records.specs.declared.stamps.Stamped.TheVariants.{Timed}
 use Rattle.ocm_law_sessions.specs.Readings.{with_ask, with_stamped}
 use Rattle.ocm_history.proofs.Going.{goes-nowhere, goes-then, if-ok, takes-asked}
 use Rattle.ocm_history.proofs.reading.take_timed.Goals as goal

@@ -1,6 +1,6 @@
 use Rattle.std.proofs.Common.{◌≡◌, sym, ap, ◌∙◌}
 use Rattle.ocm_access_log.specs.Lines.{log_of}
-use Rattle.ocm_journal_audit.specs.Stamps.{refused_from}
+use Rattle.ocm_journal_records.specs.Stamps.{refused_from}
 use Rattle.ocm_law_sessions.specs.Readings.{refused_at}
 use Rattle.ocm_logcheck.specs.Checks.{opened_in, told_of, unless_refused}
 use Rattle.ocm_logcheck.proofs.Labels.{host-is}

@@ -1,5 +1,5 @@
 use Rattle.std.proofs.Common.{◌≡◌, drop}
-use Rattle.ocm_journal_audit.specs.Stamps.{refused_from}
+use Rattle.ocm_journal_records.specs.Stamps.{refused_from}
 use Rattle.ocm_logcheck.proofs.refusing.first_refused.Given as goal
 
 abbrev pub invariant-loop-record : goal.invariant-loop-record

@@ -2,9 +2,9 @@ use Rattle.std.proofs.Common.{sym, ap, Result}
 use Rattle.std.specs.Result.{result_ok}
 use Rattle.ocm_entry.specs.declared.asks.Ask.{Ask}
 use Rattle.ocm_entry_bytes.specs.declared.entry_faults.EntryFault.{EntryFault}
-use Rattle.ocm_journal_audit.proofs.Asks.{spelled-none}
-use Rattle.ocm_journal_audit.specs.Stamps.{spelled}
-use Rattle.ocm_journal_audit.proofs.stamps.spelled.Goals as goal
+use Rattle.ocm_journal_records.proofs.Asks.{spelled-none}
+use Rattle.ocm_journal_records.specs.Stamps.{spelled}
+use Rattle.ocm_journal_records.proofs.stamps.spelled.Goals as goal
 
 pub returns-in-Ok : goal.returns-in-Ok
 unfolding spelled

@@ -8,8 +8,8 @@ use Rattle.ocm_entry.specs.declared.asks.Ask.{Ask}
 use Rattle.ocm_entry_bytes.specs.declared.entry_faults.EntryFault.{EntryFault}
 use Rattle.ocm_entry_bytes.specs.declared.entry_faults.EntryFault.TheVariants as faults
 use Rattle.ocm_entry_bytes.specs.Reading.{Fails, ask_of}
-use Rattle.ocm_journal_audit.specs.Stamps.{moment_in, said_in_second, spelled, timed}
-use Rattle.ocm_journal_audit.specs.declared.stamps.Stamped.{Stamped}
+use Rattle.ocm_journal_records.specs.Stamps.{moment_in, said_in_second, spelled, timed}
+use Rattle.ocm_journal_records.specs.declared.stamps.Stamped.{Stamped}
 
 -- a fault of the bytes
 pub result_ok-failed : (fault : EntryFault) (read : Result Ask EntryFault) → Fails fault read → fault ≢ faults.NoMemory → result_ok read ≡ None

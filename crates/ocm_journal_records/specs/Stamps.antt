@@ -2,21 +2,17 @@
 use Rattle.std.specs.Prelude.{ℕ, Bool, true, false, ◌==◌, nat_le, nat_lt, List, [], ◌∷◌, length, take, drop, codes, if◌then◌else◌, Option, Some, None, option_and_then, option_map}
 use Rattle.std.specs.Int.{w64, from_be_bytes}
 use Rattle.std.specs.Result.{result_ok}
+use Rattle.ocm_entry.specs.Ticks.{is_tick}
 use Rattle.ocm_entry.specs.declared.asks.Ask.{Ask}
 use Rattle.ocm_entry.specs.declared.asks.Ask.TheVariants as asks
 use Rattle.ocm_entry_bytes.specs.Reading.{ask_of}
 use Rattle.ocm_journal_image.specs.declared.readings.RawRecord.{RawRecord}
-use Rattle.ocm_journal_audit.specs.declared.stamps.Stamped.{Stamped}
-use Rattle.ocm_journal_audit.specs.declared.stamps.Stamped.TheVariants as stamps
+use Rattle.ocm_journal_records.specs.declared.stamps.Stamped.{Stamped}
+use Rattle.ocm_journal_records.specs.declared.stamps.Stamped.TheVariants as stamps
 
 -- the ask that bytes spell, where they spell one
 unfoldable pub spelled : List ℕ → Option Ask
 spelled bytes = result_ok (ask_of bytes)
-
--- whether an ask is a Tick
-abbrev pub is_tick : Ask → Bool
-is_tick (asks.Tick clock) = true
-is_tick _ = false
 
 -- an ask behind a moment, which is no Tick: the moment alone says that one
 abbrev pub timed : ℕ → Ask → Option Stamped

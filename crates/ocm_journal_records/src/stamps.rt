@@ -1,5 +1,6 @@
 ghost use Rattle.std.specs.Prelude.{◌≡◌, ◌≢◌, ◌≤◌, ◌<◌, length, None, IfOk};
-ghost use Rattle.ocm_journal_audit.specs.Stamps.{kind_of, is_tick, kind_of_ask, moment_behind, moment_in, moment_past, said_in_second, spelled, stamped_of, timed};
+ghost use Rattle.ocm_journal_records.specs.Stamps.{kind_of, kind_of_ask, moment_behind, moment_in, moment_past, said_in_second, spelled, stamped_of, timed};
+ghost use Rattle.ocm_entry.specs.Ticks.{is_tick};
 
 use ocm_base::NoMemory;
 use ocm_entry::Ask;
@@ -118,26 +119,10 @@ fn moment_in(bytes: &[u8]) -> u64
 fn timed(moment: u64, ask: Ask) -> Option<Stamped>
     ensures { result ≡ timed moment ask }
 {
-    if is_tick(&ask) {
+    if ask.is_tick() {
         None
     } else {
         Some(Stamped::Timed(moment, ask))
-    }
-}
-
-fn is_tick(ask: &Ask) -> bool
-    ensures { result ≡ is_tick ask.now }
-{
-    match ask {
-        Ask::Tick { .. } => true,
-        Ask::AddUser { .. }
-        | Ask::Local { .. }
-        | Ask::Offer { .. }
-        | Ask::Notice { .. }
-        | Ask::Dav { .. }
-        | Ask::Due
-        | Ask::Settle { .. }
-        | Ask::Carry { .. } => false,
     }
 }
 
