@@ -4,214 +4,149 @@
     docs/map.py           writes docs/map.svg
     docs/map.py --check   writes nothing, and exits with 1 where docs/map.svg is not what crates.txt gives
 
-A crate stands one row above the highest crate that it uses. A line joins a crate with one that it uses, unless it
-also uses that one by way of another. Crates from outside the repository are left out. The same crates.txt always
-gives the same bytes.
+Each heading `# ..` of crates.txt is a room, with the crates below it. A room stands one row above the highest room that
+it uses. A line joins a room with one that it uses, unless it also uses that one by way of another. The same crates.txt
+always gives the same bytes.
 """
 import pathlib
 import sys
+from xml.sax.saxutils import escape
 
 HERE = pathlib.Path(__file__).resolve().parent
 CRATES = HERE.parent / "crates.txt"
 MAP = HERE / "map.svg"
 
-CHAR = 6.7  # the width of a character of 11 px
-BOX = 20  # the height of a box
-ROW = 56  # from one row to the next
-GAP = 8  # between two things in a row
-BEND = 4  # the width that is kept free for a line that passes a row
-SWEEPS = 40
-TITLE = 22
+CHAR = 6.4  # the width of a character of 11 px
+LINE = 16  # the height of a line of names
+PAD = 10  # inside a room
+GAP = 26  # between two rooms of a row
+ROW = 54  # between two rows
+WIDTH = 250  # of a room
+
+STYLE = """
+  .room { fill: #f6f8fa; stroke: #8c959f; }
+  .title { font: bold 12px sans-serif; fill: #1f2328; }
+  .name { font: 11px monospace; fill: #424a53; }
+  .line { stroke: #8c959f; fill: none; }
+  @media (prefers-color-scheme: dark) {
+    .room { fill: #161b22; stroke: #6e7681; }
+    .title { fill: #e6edf3; }
+    .name { fill: #b1bac4; }
+    .line { stroke: #6e7681; }
+  }
+"""
 
 
-def read_uses():
-    """For each crate those that it uses, by the lines `name: used used ..`."""
-    lines = [line.split(":") for line in CRATES.read_text().splitlines() if ":" in line]
-    uses = {name.strip(): rest.split() for name, rest in lines}
-    return {name: sorted(set(u for u in used if u in uses)) for name, used in uses.items()}
+def read_rooms():
+    """The rooms in their order, each with its title and its crates, and for each crate those that it uses."""
+    rooms, uses = [], {}
+    for line in CRATES.read_text().splitlines():
+        if line.startswith("# "):
+            rooms.append((line[2:], []))
+        elif ":" in line:
+            name, used = line.split(":", 1)
+            uses[name.split()[0]] = used.split()
+            rooms[-1][1].append(name.split()[0])
+    own = {crate for _, crates in rooms for crate in crates}
+    return rooms, {name: [u for u in used if u in own] for name, used in uses.items()}
 
 
-def reach(uses):
-    """For each crate all crates below it. The lines may stand in any order; a cycle ends the program."""
-    below = {}
-
-    def visit(name, path):
-        if name in path:
-            sys.exit("map.py: a cycle in crates.txt: " + " ".join(path + [name]))
-        if name not in below:
-            below[name] = set().union(*[{u} | visit(u, path + [name]) for u in uses[name]])
-        return below[name]
-
-    for name in sorted(uses):
-        visit(name, [])
+def room_uses(rooms, uses):
+    """For each room the rooms before it whose crates its crates use."""
+    home = {crate: number for number, (_, crates) in enumerate(rooms) for crate in crates}
+    below = []
+    for number, (_, crates) in enumerate(rooms):
+        below.append({home[u] for crate in crates for u in uses[crate]} & set(range(number)))
     return below
 
 
-def shortest(uses, below):
-    """The same relation with as few lines as possible."""
-    return {n: [u for u in used if not any(u in below[v] for v in used)] for n, used in uses.items()}
+def reach(below):
+    """For each room all rooms below it."""
+    whole = []
+    for used in below:
+        whole.append(set(used).union(*[whole[u] for u in used]) if used else set())
+    return whole
 
 
-def rows_of(uses):
-    """For each crate its row: the longest path down from it."""
-    row = {}
-
-    def visit(name):
-        if name not in row:
-            row[name] = max([visit(u) + 1 for u in uses[name]], default=0)
-        return row[name]
-
-    for name in uses:
-        visit(name)
+def rows_of(below):
+    row = []
+    for used in below:
+        row.append(1 + max((row[u] for u in used), default=-1))
     return row
 
 
-def with_bends(edges, row):
-    """Rows of items, and the links between neighbouring rows. An item is a crate's name, or a bend of a long line."""
-    rows = [[] for _ in range(max(row.values()) + 1)]
-    for name in sorted(row):
-        rows[row[name]].append(name)
-    links, chains = [], []
-    for upper in sorted(edges):
-        for lower in edges[upper]:
-            chain = [lower] + [(lower, upper, r) for r in range(row[lower] + 1, row[upper])] + [upper]
-            for bend in chain[1:-1]:
-                rows[bend[2]].append(bend)
-            links += zip(chain, chain[1:])
-            chains.append(chain)
-    return rows, links, chains
-
-
-def crossings(rows, below):
-    """How often lines cross, by the order of the rows."""
-    count = 0
-    for r in range(1, len(rows)):
-        place = {item: i for i, item in enumerate(rows[r - 1])}
-        ends = [place[b] for item in rows[r] for b in sorted(below[item], key=place.get)]
-        count += sum(1 for i, a in enumerate(ends) for b in ends[i + 1:] if b < a)
-    return count
-
-
-def put_in_order(rows, below, above):
-    """Orders each row by the mean place of its neighbours, up and down by turns, and keeps the best order."""
-    best, least = [list(r) for r in rows], crossings(rows, below)
-    for sweep in range(SWEEPS):
-        up = sweep % 2 == 0
-        for r in (range(1, len(rows)) if up else range(len(rows) - 2, -1, -1)):
-            near = rows[r - 1] if up else rows[r + 1]
-            place = {item: i / max(1, len(near) - 1) for i, item in enumerate(near)}
-            old = {item: i / max(1, len(rows[r]) - 1) for i, item in enumerate(rows[r])}
-
-            def mean(item):
-                ends = [place[n] for n in (below if up else above)[item]]
-                return sum(ends) / len(ends) if ends else old[item]
-
-            rows[r].sort(key=lambda item: (round(mean(item), 9), old[item]))
-        count = crossings(rows, below)
-        if count < least:
-            best, least = [list(r) for r in rows], count
-    return best
-
-
-def label(name):
-    """What stands in a crate's box: its name without the prefix that all have."""
-    return name.removeprefix("ocm_")
-
-
-def width(item):
-    return len(label(item)) * CHAR + 10 if isinstance(item, str) else BEND
-
-
-def spread(items, wanted):
-    """Places as near as can be to the wanted ones that keep the order and the gaps."""
-    offset, shift = 0.0, []
-    for i, item in enumerate(items):
-        if i > 0:
-            offset += (width(items[i - 1]) + width(item)) / 2 + GAP
-        shift.append(offset)
-    blocks = []
-    for item, s in zip(items, shift):
-        blocks.append([wanted[item] - s, 1])
-        while len(blocks) > 1 and blocks[-2][0] > blocks[-1][0]:
-            mean, n = blocks.pop()
-            blocks[-1] = [(blocks[-1][0] * blocks[-1][1] + mean * n) / (blocks[-1][1] + n), blocks[-1][1] + n]
-    bases = [b for b, n in blocks for _ in range(n)]
-    return {item: base + s for item, base, s in zip(items, bases, shift)}
-
-
-def places_of(rows, below, above):
-    """The middle of each item, from left to right."""
-    x = {}
-    for items in rows:
-        x.update(spread(items, {item: 0.0 for item in items}))
-    for sweep in range(SWEEPS):
-        for items in rows if sweep % 2 == 0 else reversed(rows):
-            wanted = {}
-            for item in items:
-                near = below[item] + above[item]
-                wanted[item] = sum(x[n] for n in near) / len(near) if near else x[item]
-            x.update(spread(items, wanted))
-    left = min(x[i] - width(i) / 2 for items in rows for i in items)
-    return {item: at - left + GAP for item, at in x.items()}
-
-
-def curve(chain, x, top):
-    """The path of a line, from the top of the lower crate to the bottom of the upper one, past the bends between."""
-    path = f"M{x[chain[0]]:.1f} {top[chain[0]]}"
-    for lower, upper in zip(chain, chain[1:]):
-        start, end = top[lower], top[upper] + BOX
-        middle = (start + end) // 2
-        path += f"C{x[lower]:.1f} {middle} {x[upper]:.1f} {middle} {x[upper]:.1f} {end}"
-        if not isinstance(upper, str):
-            path += f"V{top[upper]}"
-    return f'<path d="{path}"/>'
-
-
-def box(name, x, top):
-    return (f'<rect x="{x[name] - width(name) / 2:.1f}" y="{top[name]}" width="{width(name):.1f}" height="{BOX}" rx="3"/>'
-            f'<text x="{x[name]:.1f}" y="{top[name] + 14}" text-anchor="middle">{label(name)}</text>')
-
-
-def picture(rows, chains, x):
-    """The text of the picture."""
-    wide = round(max(x[i] + width(i) / 2 for items in rows for i in items)) + GAP
-    high = (len(rows) - 1) * ROW + BOX + 2 * GAP + TITLE
-    top = {item: high - GAP - BOX - r * ROW for r, items in enumerate(rows) for item in items}
-    names = [name for items in rows for name in items if isinstance(name, str)]
-    return "\n".join([
-        f'<svg xmlns="http://www.w3.org/2000/svg" width="{wide}" height="{high}" viewBox="0 0 {wide} {high}" role="img">',
-        "<title>The crates of ocmd, and which uses which</title>",
-        "<style>text{font:11px monospace;fill:#111}rect{fill:#fff;stroke:#456}"
-        "path{fill:none;stroke:#789;stroke-width:.9}</style>",
-        f'<rect width="{wide}" height="{high}" style="stroke:none"/>',
-        f'<text x="{GAP}" y="15">A line joins a crate with one below that it uses. '
-        "A use that follows from others is left out, and so is the prefix ocm_ of the names.</text>",
-        *[curve(chain, x, top) for chain in chains],
-        *[box(name, x, top) for name in names],
-        "</svg>", ""])
+def lines_of(title, width):
+    """A title in lines of at most so many pixels."""
+    out = [""]
+    for word in title.split():
+        if out[-1] and (len(out[-1]) + 1 + len(word)) * 6.6 > width:
+            out.append("")
+        out[-1] = (out[-1] + " " + word).strip()
+    return out
 
 
 def draw():
-    """What crates.txt gives."""
-    uses = read_uses()
-    rows, links, chains = with_bends(shortest(uses, reach(uses)), rows_of(uses))
-    below = {item: [] for items in rows for item in items}
-    above = {item: [] for items in rows for item in items}
-    for lower, upper in links:
-        below[upper].append(lower)
-        above[lower].append(upper)
-    rows = put_in_order(rows, below, above)
-    return picture(rows, chains, places_of(rows, below, above))
+    rooms, uses = read_rooms()
+    below = room_uses(rooms, uses)
+    whole = reach(below)
+    direct = [{u for u in used if not any(u in whole[v] for v in used)} for used in below]
+    row = rows_of(below)
+    tall = [
+        2 * PAD + LINE * (len(lines_of(title, WIDTH - 2 * PAD)) + len(crates)) for title, crates in rooms
+    ]
+    depth = max(row) + 1
+    members = [[n for n in range(len(rooms)) if row[n] == r] for r in range(depth)]
+    wide = max(len(m) for m in members)
+    full = wide * WIDTH + (wide + 1) * GAP
+    place, top = {}, GAP
+    for r in reversed(range(depth)):
+        used = len(members[r]) * WIDTH + (len(members[r]) - 1) * GAP
+        left = (full - used) / 2
+        high = max(tall[n] for n in members[r])
+        for n in members[r]:
+            place[n] = (left, top + high - tall[n])
+            left += WIDTH + GAP
+        top += high + ROW
+    height = top - ROW + GAP
+    out = [
+        f'<svg xmlns="http://www.w3.org/2000/svg" width="{full:.0f}" height="{height:.0f}" viewBox="0 0 {full:.0f} {height:.0f}">',
+        "<title>The crates of ocmd: each room stands on those below it that a line leads to</title>",
+        f"<style>{STYLE}</style>",
+    ]
+    for n, used in enumerate(direct):
+        for k, u in enumerate(sorted(used)):
+            x1 = place[n][0] + WIDTH * (k + 1) / (len(used) + 1)
+            y1 = place[n][1] + tall[n]
+            over = sorted(m for m, d in enumerate(direct) if u in d)
+            x2 = place[u][0] + WIDTH * (over.index(n) + 1) / (len(over) + 1)
+            y2 = place[u][1]
+            middle = (y1 + y2) / 2
+            out.append(
+                f'<path class="line" d="M{x1:.0f} {y1:.0f} C{x1:.0f} {middle:.0f} {x2:.0f} {middle:.0f} {x2:.0f} {y2:.0f}"/>'
+            )
+    for n, (title, crates) in enumerate(rooms):
+        x, y = place[n]
+        out.append(f'<rect class="room" x="{x:.0f}" y="{y:.0f}" width="{WIDTH}" height="{tall[n]}" rx="6"/>')
+        at = y + PAD + 10
+        for text in lines_of(title, WIDTH - 2 * PAD):
+            out.append(f'<text class="title" x="{x + PAD:.0f}" y="{at:.0f}">{escape(text)}</text>')
+            at += LINE
+        for crate in crates:
+            out.append(f'<text class="name" x="{x + PAD:.0f}" y="{at:.0f}">{escape(crate)}</text>')
+            at += LINE
+    out.append("</svg>")
+    return "\n".join(out) + "\n"
 
 
-def main(words):
-    if words not in ([], ["--check"]):
-        sys.exit("usage: docs/map.py [--check]")
-    text = draw()
-    if not words:
-        MAP.write_text(text)
-    elif not MAP.exists() or MAP.read_text() != text:
-        sys.exit("docs/map.svg is not what crates.txt gives; docs/map.py writes it anew")
+def main():
+    drawn = draw()
+    if sys.argv[1:] == ["--check"]:
+        if not MAP.is_file() or MAP.read_text() != drawn:
+            sys.exit("map.py: docs/map.svg is not the map of crates.txt; docs/map.py draws it")
+    elif sys.argv[1:]:
+        sys.exit(__doc__)
+    else:
+        MAP.write_text(drawn)
 
 
-main(sys.argv[1:])
+main()
