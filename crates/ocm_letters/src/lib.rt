@@ -9,6 +9,7 @@ mod guests;
 mod ids;
 pub mod laws;
 mod mailings;
+mod messages;
 mod settlements;
 mod shares;
 
