@@ -1,5 +1,5 @@
-//! What every crate stands on: the outside as three traits, with their forms in memory and over the system, and all of
-//! `ocm_texts`: texts, bytes and lists in small types, and the numbers and bytes that texts write.
+//! The outside as three traits, a clock, a source and a sink, each with a form in memory and one over the system. All of
+//! `ocm_texts` comes with them: texts, bytes and lists in small types, and the numbers and bytes that texts write.
 //!
 //! Want of memory is an answer of its own everywhere ([`NoMemory`]), and is merged with no other.
 //! What makes a new value takes the allocator first; a value that grows or is copied keeps its own.

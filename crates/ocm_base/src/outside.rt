@@ -1,4 +1,4 @@
-ghost use Rattle.std.specs.Prelude.{◌≡◌, ℕ, ◌<◌, ◌≤◌, List, [], ◌++◌, length, take, Option, Some, true, IfOk, IfSome, OnErr};
+ghost use Rattle.std.specs.Prelude.{◌≡◌, ℕ, ◌<◌, ◌≤◌, List, [], ◌++◌, length, take, Option, Some, IfOk, IfSome, OnErr};
 ghost use Rattle.ocm_base.specs.Outside.{Rose, Appends, Takes};
 
 use ocm_texts::Failed;
@@ -22,17 +22,6 @@ pub trait Source: Drop {
         ensures err { OnErr result (left self.new ≡ left self.old) }
         ensures rose { OnErr result (Rose (faults self.old) (faults self.new)) }
         ensures never_falls { faults self.old ≤ faults self.new };
-
-    /// Whether nothing is here to read now, and the source may be handed back until there is. It is asked between
-    /// two messages, where each byte that was read was used. A source that knows what it has left rests only where that
-    /// is nothing.
-    fn rests(&mut self) -> bool
-        ensures told { result ≡ true → IfSome (left self.old) (λ rest. rest ≡ []) }
-        ensures left { left self.new ≡ left self.old }
-        ensures faults { faults self.new ≡ faults self.old }
-    {
-        false
-    }
 }
 
 /// Where bytes go.

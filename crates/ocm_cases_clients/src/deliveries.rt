@@ -1,7 +1,7 @@
 //! Deliveries of offers and notifications.
 use ocm_pump::{Answered, MemDial, deliver};
 use ocm_records::{read_notice, read_offer};
-use ocm_types::{Host, Letter, Numbered};
+use ocm_types::{Host, Letter, Numbered, Shared};
 use std::alloc::Global;
 
 /// The status with which the offer of this record was answered at `localhost:8081`, and the id that came with it.
@@ -21,16 +21,21 @@ pub fn notice_told(alloc: Global, dial: &mut MemDial, record: &str) -> Option<St
 }
 
 fn letter_told(alloc: Global, dial: &mut MemDial, letter: Letter) -> Option<String> {
-    match Host::read(alloc, "localhost:8081") {
-        Ok(to) => message_told(alloc, dial, message(to, letter)),
-        Err(_) => {
-            drop(letter);
-            None
-        }
+    let letter = Shared::new(alloc, letter).ok();
+    match host(alloc).zip(letter) {
+        Some((to, letter)) => message_told(alloc, dial, message(to, letter)),
+        None => None,
     }
 }
 
-fn message(to: Host, letter: Letter) -> Numbered {
+fn host(alloc: Global) -> Option<Shared<Host>> {
+    match Host::read(alloc, "localhost:8081") {
+        Ok(to) => Shared::new(alloc, to).ok(),
+        Err(_) => None,
+    }
+}
+
+fn message(to: Shared<Host>, letter: Shared<Letter>) -> Numbered {
     Numbered {
         number: 1,
         to,

@@ -52,7 +52,7 @@ pub fn rest_told<R: Wait>(rt: &R, alloc: Global, gates: &Gates, row: &str) -> Op
             let store = disk_of(alloc, gates, disk);
             let ended = talked(rt, alloc, store, limit, &mut conn, &mut clock);
             drop(clock);
-            let told = calls_told(alloc, ended, conn.sink.bytes().as_slice());
+            let told = calls_told(alloc, ended, conn.pair.bytes());
             drop(conn);
             told
         }

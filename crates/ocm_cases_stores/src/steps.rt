@@ -87,7 +87,7 @@ fn message_told(alloc: Global, message: Option<&Numbered>) -> Option<String> {
 }
 
 fn letter_told(alloc: Global, message: &Numbered) -> Option<String> {
-    let kind = match &message.letter {
+    let kind = match &*message.letter {
         Letter::Offer(_) => "offer",
         Letter::Notice(_) => "notice",
     };

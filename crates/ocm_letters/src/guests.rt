@@ -2,6 +2,7 @@ ghost use Rattle.std.specs.Prelude.{◌≡◌, IfOk};
 ghost use Rattle.ocm_rules.specs.Messages.{acceptance, refusal, reshare_request, undo_of};
 
 use crate::ids::sender_id;
+use crate::messages::message;
 use ocm_base::NoMemory;
 use ocm_rules::{Message, Subject};
 use ocm_types::{Address, Letter, Notice, Offer, Perms, ProviderId};
@@ -9,7 +10,7 @@ use std::alloc::Global;
 
 /// The message that tells the owner's server that the received offer of this number was taken, and
 /// how it was understood.
-pub fn acceptance(number: u32, offer: &Offer) -> Result<Message, NoMemory>
+pub fn acceptance(alloc: Global, number: u32, offer: &Offer) -> Result<Message, NoMemory>
     ensures { IfOk result (λ message. message ≡ acceptance number offer.now) }
 {
     let to = offer.owner.host.copy()?;
@@ -17,31 +18,25 @@ pub fn acceptance(number: u32, offer: &Offer) -> Result<Message, NoMemory>
     let secret = offer.secret.copy()?;
     let owner = offer.owner.copy()?;
     let with = offer.with.copy()?;
-    Ok(Message {
-        subject: Subject::Received { number },
-        to,
-        letter: Letter::Notice(Notice::Accepted {
-            id,
-            secret,
-            owner: Some(owner),
-            with: Some(with),
-            perms: Some(offer.perms),
-        }),
-    })
+    let letter = Letter::Notice(Notice::Accepted {
+        id,
+        secret,
+        owner: Some(owner),
+        with: Some(with),
+        perms: Some(offer.perms),
+    });
+    message(alloc, Subject::Received { number }, to, letter)
 }
 
 /// The message that tells the owner's server that the received offer of this number was declined.
-pub fn refusal(number: u32, offer: &Offer) -> Result<Message, NoMemory>
+pub fn refusal(alloc: Global, number: u32, offer: &Offer) -> Result<Message, NoMemory>
     ensures { IfOk result (λ message. message ≡ refusal number offer.now) }
 {
     let to = offer.owner.host.copy()?;
     let id = offer.id.copy()?;
     let secret = offer.secret.copy()?;
-    Ok(Message {
-        subject: Subject::Received { number },
-        to,
-        letter: Letter::Notice(Notice::Declined { id, secret }),
-    })
+    let letter = Letter::Notice(Notice::Declined { id, secret });
+    message(alloc, Subject::Received { number }, to, letter)
 }
 
 /// The message of the request of this number, which asks the owner's server to share what was offered
@@ -60,30 +55,29 @@ pub fn reshare_request(
     let secret = offer.secret.copy()?;
     let with = with.copy()?;
     let sender_id = sender_id(alloc, request)?;
-    Ok(Message {
-        subject: Subject::Request { request },
-        to,
-        letter: Letter::Notice(Notice::ReshareRequest {
-            id,
-            secret,
-            with,
-            sender_id,
-            perms,
-        }),
-    })
+    let letter = Letter::Notice(Notice::ReshareRequest {
+        id,
+        secret,
+        with,
+        sender_id,
+        perms,
+    });
+    message(alloc, Subject::Request { request }, to, letter)
 }
 
 /// The message that takes the request of this number back: the share that the owner's server made for
 /// it, which has this mark, ends.
-pub fn undo_of(request: u32, offer: &Offer, child: &ProviderId) -> Result<Message, NoMemory>
+pub fn undo_of(
+    alloc: Global,
+    request: u32,
+    offer: &Offer,
+    child: &ProviderId,
+) -> Result<Message, NoMemory>
     ensures { IfOk result (λ message. message ≡ undo_of request offer.now child.now) }
 {
     let to = offer.owner.host.copy()?;
     let id = child.copy()?;
     let secret = offer.secret.copy()?;
-    Ok(Message {
-        subject: Subject::Request { request },
-        to,
-        letter: Letter::Notice(Notice::ReshareUndo { id, secret }),
-    })
+    let letter = Letter::Notice(Notice::ReshareUndo { id, secret });
+    message(alloc, Subject::Request { request }, to, letter)
 }

@@ -9,6 +9,7 @@ mod guests;
 mod ids;
 pub mod laws;
 mod mailings;
+mod messages;
 mod shares;
 
 pub use guests::{acceptance, refusal, reshare_request, undo_of};

@@ -5,6 +5,7 @@ ghost use Rattle.ocm_letters.specs.Letters.{offer_from, offered_from};
 ghost use Rattle.ocm_letters.specs.Rows.{own_share_from, child_share_from};
 
 use crate::ids::{provider_id, share_name};
+use crate::messages::message;
 use ocm_base::NoMemory;
 use ocm_entry::Share;
 use ocm_path::Path;
@@ -25,11 +26,8 @@ pub fn offered(
 {
     let to = share.with.host.copy()?;
     let offer = offer(alloc, host, owner, id, share)?;
-    Ok(Message {
-        subject: Subject::Share { id },
-        to,
-        letter: Letter::Offer(offer),
-    })
+    let letter = Letter::Offer(offer);
+    message(alloc, Subject::Share { id }, to, letter)
 }
 
 fn offer(
@@ -73,11 +71,8 @@ pub fn unshared(alloc: Global, id: u32, share: &Share) -> Result<Message, NoMemo
     let to = share.with.host.copy()?;
     let mark = provider_id(alloc, id)?;
     let secret = share.secret.copy()?;
-    Ok(Message {
-        subject: Subject::Share { id },
-        to,
-        letter: Letter::Notice(Notice::Unshared { id: mark, secret }),
-    })
+    let letter = Letter::Notice(Notice::Unshared { id: mark, secret });
+    message(alloc, Subject::Share { id }, to, letter)
 }
 
 /// The message that tells the server of its guest what may be done by the share of this number from
@@ -94,16 +89,13 @@ pub fn changed(
     let to = share.with.host.copy()?;
     let mark = provider_id(alloc, id)?;
     let secret = share.secret.copy()?;
-    Ok(Message {
-        subject: Subject::Share { id },
-        to,
-        letter: Letter::Notice(Notice::Changed {
-            id: mark,
-            secret,
-            serial,
-            perms,
-        }),
-    })
+    let letter = Letter::Notice(Notice::Changed {
+        id: mark,
+        secret,
+        serial,
+        perms,
+    });
+    message(alloc, Subject::Share { id }, to, letter)
 }
 
 /// The row of a share of an owner's own command, made at this host: the user of this number and this

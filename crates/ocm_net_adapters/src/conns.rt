@@ -95,10 +95,6 @@ impl<'a, R: time::Clock> Source for StreamConn<'a, R> {
             None => Err(self.fail()),
         }
     }
-
-    fn rests(&mut self) -> bool {
-        self.line_rests()
-    }
 }
 
 impl<'a, R: time::Clock> Sink for StreamConn<'a, R> {

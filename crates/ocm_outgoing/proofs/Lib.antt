@@ -7,4 +7,4 @@ pub mod Pushed
 pub mod Settled
 pub mod Counts
 pub mod Due
-pub mod Fronts
+pub mod DueNumbers

@@ -1,5 +1,6 @@
 use Rattle.std.proofs.Common.{◌≡◌, ◌≢◌, ℕ, zero, suc, ◌+◌, ◌<◌, List, [], ◌∷◌, ◌++◌, length, Bool, true, false, cond, Option, Some, None, refl, sym, ap, subst, ◌∙◌, arith}
-use Rattle.std.specs.Prelude.{nat_eq, slice_get, not, ◌&&◌, option_map, is_some}
+use Rattle.std.specs.Prelude.{nat_eq, slice_get, not, ◌&&◌, option_map, is_some, is_none}
+use Rattle.std.specs.List.Sorted.{IsNonDecreasing}
 use Rattle.std.specs.Option.{option_map_or}
 use Rattle.std.proofs.lemmas.Bool.{false≢true}
 use Rattle.std.proofs.lemmas.Bool.Decides.{nat_tests}
@@ -14,11 +15,11 @@ use Rattle.ocm_rules.specs.Numbers.{at_number}
 use Rattle.ocm_rules.specs.Settlements.{same_subject}
 use Rattle.ocm_outgoing.specs.declared.rows.Sent.{Sent}
 use Rattle.ocm_outgoing.specs.declared.rows.Thread.{Thread}
-use Rattle.ocm_outgoing.specs.Threads.{about, waiting, next_of, linked, with_link, first_or, ThreadIs, same_key, HaveNumbers, Threads, IsOutbox, thread_of, row_of, rows_of}
+use Rattle.ocm_outgoing.specs.Threads.{about, waiting, next_of, linked, with_link, first_or, ThreadIs, same_key, HaveNumbers, Threads, IsOutbox, AreFronts, begins, begins_at, times, thread_of, row_of, rows_of}
 use Rattle.ocm_outgoing.specs.Lists.{messages}
 use Rattle.ocm_outgoing.proofs.Changed.{at_number-changed, length-changed, at_one, rows_of-linked}
 use Rattle.ocm_outgoing.proofs.Chains.{GoesOn, ThreadIs-same, ThreadIs-push}
-use Rattle.ocm_outgoing.proofs.Reading.{about-within, about-past, about-there, fewer}
+use Rattle.ocm_outgoing.proofs.Reading.{about-within, about-past, about-there, fewer, waits-about, at_number-past}
 use Rattle.ocm_outgoing.proofs.Subjects.{key-same, key-refl, subject-refl, subject-other, about-other}
 
 slice_get-push : {X : Type 0} (xs : List X) (x : X) (i : ℕ) → slice_get (xs ++ x ∷ []) i ≡ cond (nat_eq i (length xs)) (Some x) (slice_get xs i)
@@ -211,11 +212,71 @@ counts-push f xs x = grind (arith, common_steps)
 pub count-pushed : (sent : List SentRow) (row : SentRow) → change_count (messages (sent ++ row ∷ [])) ≡ change_count (messages sent) + cond (is_change row.message.letter) 1 0
 count-pushed sent row = ap change_count (map-append (λ (row : SentRow). row.message) sent (row ∷ [])) ∙ counts-push (λ (m : Message). cond (is_change m.letter) 1 0) (messages sent) row.message
 
+first-begins : (k n : ℕ) (older : Option Thread) → k ≢ n → begins_at (Some (record { first = first_or n older; last = n })) k ≡ begins_at older k
+first-begins k n None other = nat-other n k (λ same. other (sym same))
+first-begins k n (Some t) other = refl
+
+none-begins : (n : ℕ) (older : Option Thread) → ((t : Thread) → older ≡ Some t → t.first < n) → begins_at (Some (record { first = first_or n older; last = n })) n ≡ is_none older
+none-begins n None below = nat-refl n
+none-begins n (Some t) below = let low = below t refl in nat-other t.first n (omega (arith, low))
+
+-- the thread of one thing begins where it began, after a push of another number
+still-begins : (k n : ℕ) (subject : Subject) (old new : Subject → Option Thread) → k ≢ n → ((s : Subject) → new s ≡ cond (same_key subject s) (Some (record { first = first_or n (old subject); last = n })) (old s)) → (s : Subject) → begins_at (new s) k ≡ begins_at (old s) k
+still-begins k n subject old new other updates s = ap (λ o. begins_at o k) (updates s) ∙ by (same_key subject s) refl
+  where
+    by : (b : Bool) → same_key subject s ≡ b → begins_at (cond b (Some (record { first = first_or n (old subject); last = n })) (old s)) k ≡ begins_at (old s) k
+    by true same = first-begins k n (old subject) other ∙ ap (λ (s : Subject). begins_at (old s) k) (key-same subject s same)
+    by false apart = refl
+
+same-begins : (k : ℕ) (old new : Subject → Option Thread) (found : Option Sent) → ((s : Subject) → begins_at (new s) k ≡ begins_at (old s) k) → option_map_or (λ (row : Sent). begins_at (new row.subject) k) found false ≡ option_map_or (λ (row : Sent). begins_at (old row.subject) k) found false
+same-begins k old new None same = refl
+same-begins k old new (Some row) same = same row.subject
+
+-- at which numbers threads begin after a push: as before, and at the new one where no older thread goes on with it
+begins-pushed : (rows : List Sent) (n : ℕ) (row : Sent) (old new : Subject → Option Thread) → n ≡ length rows + 1 → ((s : Subject) → new s ≡ cond (same_key row.subject s) (Some (record { first = first_or n (old row.subject); last = n })) (old s)) → IsThreaded rows old → (k : ℕ) → begins (pushed (old row.subject) n rows row) new k ≡ cond (nat_eq k n) (is_none (old row.subject)) (begins rows old k)
+begins-pushed rows n row old new e updates is k =
+    read-pushed (λ (row : Sent). begins_at (new row.subject) k) false (old row.subject) n rows row k e (λ row. refl) ∙ by (nat_eq k n) refl
+  where
+    below : (t : Thread) → old row.subject ≡ Some t → t.first < n
+    below t was =
+        let thread = subst (ThreadIs (about rows row.subject) (waiting rows row.subject) (next_of rows)) was (is row.subject) in
+        let within = about-within rows row.subject t.first (waits-about rows row.subject t.first thread.1.waits) in
+        omega (arith, within.1, e)
+
+    here : begins_at (new row.subject) n ≡ is_none (old row.subject)
+    here = ap (λ o. begins_at o n) (updates row.subject ∙ cond-at (same_key row.subject row.subject) _ _ (key-refl row.subject)) ∙ none-begins n (old row.subject) below
+
+    by : (b : Bool) → nat_eq k n ≡ b → cond b (begins_at (new row.subject) k) (option_map_or (λ (row : Sent). begins_at (new row.subject) k) (at_number rows k) false) ≡ cond b (is_none (old row.subject)) (begins rows old k)
+    by true same = let is_n : k ≡ n = grind (arith, nat_tests) in ap (begins_at (new row.subject)) is_n ∙ here
+    by false other =
+        let ne : k ≢ n = grind (arith, nat_tests) in
+        same-begins k old new (at_number rows k) (still-begins k n row.subject old new ne updates)
+
+-- the numbers at which threads begin after a push
+pub pushed-fronts : (rows : List Sent) (n : ℕ) (row : Sent) (old new : Subject → Option Thread) (fronts after : List ℕ) → n ≡ length rows + 1 → ((s : Subject) → new s ≡ cond (same_key row.subject s) (Some (record { first = first_or n (old row.subject); last = n })) (old s)) → IsThreaded rows old → AreFronts (begins rows old) fronts → ((k : ℕ) → times k after ≡ times k fronts + cond (is_none (old row.subject)) (cond (nat_eq k n) 1 0) 0) → IsNonDecreasing after → AreFronts (begins (pushed (old row.subject) n rows row) new) after
+pushed-fronts rows n row old new fronts after e updates is begun more rising = record {
+  once = λ k. more k ∙ (ap (λ i. i + cond (is_none (old row.subject)) (cond (nat_eq k n) 1 0) 0) (begun.once k) ∙ (sums (nat_eq k n) (is_none (old row.subject)) (begins rows old k) (λ same. nothing k same) ∙ ap (λ b. cond b 1 0) (sym (begins-pushed rows n row old new e updates is k))));
+  rising = rising;
+}
+  where
+    sums : (here none was : Bool) → (here ≡ true → was ≡ false) → cond was 1 0 + cond none (cond here 1 0) 0 ≡ cond (cond here none was) 1 0
+    sums true none true off = absurd (false≢true (sym (off refl)))
+    sums true true false off = refl
+    sums true false false off = refl
+    sums false true true off = refl
+    sums false true false off = refl
+    sums false false true off = refl
+    sums false false false off = refl
+
+    nothing : (k : ℕ) → nat_eq k n ≡ true → begins rows old k ≡ false
+    nothing k same = let past : length rows < k = grind (arith, nat_tests) in ap (λ found. option_map_or (λ (row : Sent). begins_at (old row.subject) k) found false) (at_number-past rows k past)
+
 -- an outbox after a push
-pub pushed-outbox : (rows : List Sent) (old new : Threads) (changes more n : ℕ) (row : Sent) → IsOutbox rows old changes → length rows < 1048576 → n ≡ length rows + 1 → row.settled ≡ false → row.next ≡ 0 → row.numbered.number ≡ n → more ≡ cond (is_change row.numbered.letter) 1 0 → ((s : Subject) → thread_of new s ≡ cond (same_key row.subject s) (Some (record { first = first_or n (thread_of old row.subject); last = n })) (thread_of old s)) → IsOutbox (pushed (thread_of old row.subject) n rows row) new (changes + more)
-pushed-outbox rows old new changes more n row was few e unsettled ends number adds updates = record {
+pub pushed-outbox : (rows : List Sent) (old new : Threads) (fronts after : List ℕ) (changes more n : ℕ) (row : Sent) → IsOutbox rows old fronts changes → length rows < 1048576 → n ≡ length rows + 1 → row.settled ≡ false → row.next ≡ 0 → row.numbered.number ≡ n → more ≡ cond (is_change row.numbered.letter) 1 0 → ((s : Subject) → thread_of new s ≡ cond (same_key row.subject s) (Some (record { first = first_or n (thread_of old row.subject); last = n })) (thread_of old s)) → ((k : ℕ) → times k after ≡ times k fronts + cond (is_none (thread_of old row.subject)) (cond (nat_eq k n) 1 0) 0) → IsNonDecreasing after → IsOutbox (pushed (thread_of old row.subject) n rows row) new after (changes + more)
+pushed-outbox rows old new fronts after changes more n row was few e unsettled ends number adds updates begins_more rising = record {
   few = omega (arith, length-append (with_link (thread_of old row.subject) n rows) (row ∷ []), length-linked (thread_of old row.subject) n rows);
   numbers = pushed-numbers rows n row (thread_of old row.subject) e number was.numbers;
   counted = rw (rows_of-pushed (thread_of old row.subject) n rows row, count-pushed (rows_of rows) (row_of row), was.counted, adds) refl;
   threaded = pushed-threads rows n row (thread_of old) (thread_of new) e unsettled ends updates was.threaded;
+  begun = pushed-fronts rows n row (thread_of old) (thread_of new) fronts after e updates was.threaded was.begun begins_more rising;
 }

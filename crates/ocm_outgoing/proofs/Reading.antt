@@ -39,6 +39,14 @@ fewer-row s (Some row) e = rw e refl
 pub fewer : (rows : List Sent) (s : Subject) (k : ℕ) → about rows s k ≡ false → waiting rows s k ≡ false
 fewer rows s k = fewer-row s (at_number rows k)
 
+either : (b : Bool) → (b ≡ false → false ≡ true) → b ≡ true
+either true h = refl
+either false h = absurd (false≢true (h refl))
+
+-- what waits about this is about this
+pub waits-about : (rows : List Sent) (s : Subject) (k : ℕ) → waiting rows s k ≡ true → about rows s k ≡ true
+waits-about rows s k waits = either (about rows s k) (λ off. sym (fewer rows s k off) ∙ waits)
+
 there-row : (s : Subject) (found : Option Sent) → option_map_or (λ (row : Sent). same_subject row.subject s) found false ≡ true → is_some found ≡ true
 there-row s None e = absurd (false≢true e)
 there-row s (Some row) e = refl

@@ -1,6 +1,7 @@
-use Rattle.std.proofs.Common.{◌≡◌, ◌≢◌, ℕ, ◌<◌, ◌≤◌, ◌-◌, get_or, List, Bool, true, false, cond, Option, Some, None, refl, sym, ap, subst, ◌∙◌, arith, ◌⊎◌, ⊎_elim}
+use Rattle.std.proofs.Common.{◌≡◌, ◌≢◌, ℕ, ◌+◌, ◌<◌, ◌≤◌, ◌-◌, get_or, List, Bool, true, false, cond, Option, Some, None, refl, sym, ap, subst, ◌∙◌, arith, ◌⊎◌, ⊎_elim}
 use Rattle.std.specs.Prelude.{nat_eq, not, ◌&&◌, option_map, is_some, IsSome}
 use Rattle.std.specs.Option.{option_map_or}
+use Rattle.std.specs.List.Sorted.{IsNonDecreasing}
 use Rattle.std.proofs.lemmas.Bool.{false≢true}
 use Rattle.std.proofs.lemmas.Bool.Decides.{nat_tests}
 use Rattle.ocm_rules.specs.declared.rows.SentRow.{SentRow}
@@ -12,10 +13,10 @@ use Rattle.ocm_rules.specs.Settlements.{same_subject}
 use Rattle.ocm_outgoing.specs.declared.rows.Sent.{Sent}
 use Rattle.ocm_outgoing.specs.declared.rows.Thread.{Thread}
 use Rattle.ocm_outgoing.specs.Lists.{messages, message_at, settled_row}
-use Rattle.ocm_outgoing.specs.Threads.{about, waiting, next_of, marked, begins_at, moved, IsChain, IsFound, IsReached, IsWalk, ThreadIs, same_key, Threads, IsOutbox, thread_of, row_of, rows_of}
+use Rattle.ocm_outgoing.specs.Threads.{about, waiting, next_of, marked, begins_at, begins, moved, times, AreFronts, IsChain, IsFound, IsReached, IsWalk, ThreadIs, same_key, Threads, IsOutbox, thread_of, row_of, rows_of}
 use Rattle.ocm_outgoing.proofs.Changed.{at_number-changed, length-changed, at_one, rows_of-marked, map-numbered, same-numbered, changed-same, number_within}
 use Rattle.ocm_outgoing.proofs.Chains.{ThreadIs-same, ThreadIs-moved, IsFirst-kept, IsReached-step}
-use Rattle.ocm_outgoing.proofs.Reading.{about-row, waiting-row, next_of-row, fewer, at_number-index}
+use Rattle.ocm_outgoing.proofs.Reading.{about-row, waiting-row, next_of-row, fewer, waits-about, at_number-index}
 use Rattle.ocm_outgoing.proofs.Found.{message_at-rows}
 use Rattle.ocm_outgoing.proofs.Subjects.{key-same, key-refl, subject-refl, about-other}
 
@@ -170,12 +171,13 @@ messages-settled : (m : ℕ) (sent : List SentRow) → messages (changed_at m se
 messages-settled m sent = map-numbered (λ (row : SentRow). row.message) (at_one m settled_row) (λ j message. message) (λ j row. message-settled (nat_eq m j) row) 1 sent ∙ same-numbered 1 (messages sent)
 
 -- an outbox after a mark, where its threads are right
-pub marked-outbox : (m : ℕ) (rows : List Sent) (old new : Threads) (changes : ℕ) → IsOutbox rows old changes → IsThreadedBy (changed_at m marked rows) (thread_of new) → IsOutbox (changed_at m marked rows) new changes
-marked-outbox m rows old new changes was threaded = record {
+pub marked-outbox : (m : ℕ) (rows : List Sent) (old new : Threads) (fronts after : List ℕ) (changes : ℕ) → IsOutbox rows old fronts changes → IsThreadedBy (changed_at m marked rows) (thread_of new) → AreFronts (begins (changed_at m marked rows) (thread_of new)) after → IsOutbox (changed_at m marked rows) new after changes
+marked-outbox m rows old new fronts after changes was threaded begun = record {
   few = omega (arith, was.few, length-changed m marked rows);
   numbers = λ i. read-marked (λ (row : Sent). nat_eq row.numbered.number i) true m rows i (λ row. refl) ∙ was.numbers i;
   counted = was.counted ∙ sym (ap change_count (ap messages (rows_of-marked m rows) ∙ messages-settled m (rows_of rows)));
   threaded = threaded;
+  begun = begun;
 }
 
 marked-settled : (row : Sent) → row.settled ≡ true → marked row ≡ row
@@ -215,12 +217,114 @@ walk-ready m rows row found there unsettled begins is =
     let held = thread-there rows m row found there unsettled is in
     (row.subject, held.0, walk-begins m rows row row.subject held.0 there (begins-first found held.0 m held.1 begins) (subst (ThreadIs (about rows row.subject) (waiting rows row.subject) (next_of rows)) held.1 is))
 
+-- ---- the numbers at which threads begin
+
+refute : (b : Bool) → (b ≡ true → false ≡ true) → b ≡ false
+refute true h = absurd (false≢true (h refl))
+refute false h = refl
+
+plus-swap : (a b : ℕ) → a + b ≡ b + a
+plus-swap a b = omega arith
+
+nat-swap : (i j : ℕ) → nat_eq i j ≡ nat_eq j i
+nat-swap i j = grind (arith, nat_tests)
+
+both-none : (a b : Bool) (n : ℕ) → a ≡ b → n ≡ 0 → (c : Bool) → c ≡ false → cond a 1 0 + cond c 1 0 ≡ cond b 1 0 + n
+both-none a b n e none c off = rw (e, none, off) refl
+
+-- a thread of which the first is another now begins there, and no longer where it began
+goes-on : (k m : ℕ) (t : Thread) (first : Option ℕ) → t.first ≡ m → cond (begins_at (moved first (Some t)) k) 1 0 + cond (nat_eq k m) 1 0 ≡ cond (begins_at (Some t) k) 1 0 + option_map_or (λ j. cond (nat_eq k j) 1 0) first 0
+goes-on k m t None begins = plus-swap 0 (cond (nat_eq k m) 1 0) ∙ ap (λ b. cond b 1 0 + 0) (nat-swap k m ∙ ap (λ i. nat_eq i k) (sym begins))
+goes-on k m t (Some j) begins =
+    ap (λ b. cond b 1 0 + cond (nat_eq k m) 1 0) (nat-swap j k)
+    ∙ (plus-swap (cond (nat_eq k j) 1 0) (cond (nat_eq k m) 1 0) ∙ ap (λ b. cond b 1 0 + cond (nat_eq k j) 1 0) (nat-swap k m ∙ ap (λ i. nat_eq i k) (sym begins)))
+
+cancels : (a b c x y : ℕ) → a + x ≡ c + y → b + x ≡ c + y → a ≡ b
+cancels a b c x y e f = omega (arith, e, f)
+
+-- the numbers at which threads begin, where the first of one was settled
+moved-fronts : (m : ℕ) (rows : List Sent) (row : Sent) (old new : Subject → Option Thread) (t : Thread) (first : Option ℕ) (fronts after : List ℕ) → at_number rows m ≡ Some row → old row.subject ≡ Some t → t.first ≡ m → ((j : ℕ) → first ≡ Some j → about rows row.subject j ≡ true) → ((s : Subject) → new s ≡ cond (same_key row.subject s) (moved first (old row.subject)) (old s)) → AreFronts (begins rows old) fronts → ((k : ℕ) → times k after + cond (nat_eq k m) 1 0 ≡ times k fronts + option_map_or (λ j. cond (nat_eq k j) 1 0) first 0) → IsNonDecreasing after → AreFronts (begins (changed_at m marked rows) new) after
+moved-fronts m rows row old new t first fronts after there held first_is found updates begun more rising = record {
+  once = λ k. cancels (times k after) (cond (begins_now k) 1 0) (times k fronts) (cond (nat_eq k m) 1 0) (option_map_or (λ j. cond (nat_eq k j) 1 0) first 0) (more k) (counted k);
+  rising = rising;
+}
+  where
+    begins_now : ℕ → Bool
+    begins_now k = begins (changed_at m marked rows) new k
+
+    same-nat : (i j : ℕ) → nat_eq i j ≡ true → i ≡ j
+    same-nat i j e = grind (arith, nat_tests)
+
+    off-m : (k : ℕ) → about rows row.subject k ≡ false → nat_eq k m ≡ false
+    off-m k off = refute (nat_eq k m) (λ same. sym off ∙ (ap (about rows row.subject) (same-nat k m same) ∙ (about-row rows row.subject m row there ∙ subject-refl row.subject)))
+
+    off-first : (k : ℕ) → about rows row.subject k ≡ false → (o : Option ℕ) → ((j : ℕ) → o ≡ Some j → about rows row.subject j ≡ true) → option_map_or (λ j. cond {A = ℕ} (nat_eq k j) 1 0) o 0 ≡ 0
+    off-first k off None found = refl
+    off-first k off (Some j) found = ap (λ b. cond {A = ℕ} b 1 0) (refute (nat_eq k j) (λ same. sym off ∙ (ap (about rows row.subject) (same-nat k j same) ∙ found j refl)))
+
+    moved-here : (k : ℕ) (other : Sent) → row.subject ≡ other.subject → cond (begins_at (new other.subject) k) 1 0 + cond (nat_eq k m) 1 0 ≡ cond (begins_at (old other.subject) k) 1 0 + option_map_or (λ j. cond (nat_eq k j) 1 0) first 0
+    moved-here k other same =
+        let now : new other.subject ≡ moved first (Some t) = ap new (sym same) ∙ (updates row.subject ∙ (cond-key row.subject ∙ ap (moved first) held)) in
+        let was : old other.subject ≡ Some t = ap old (sym same) ∙ held in
+        ap (λ o. cond (begins_at o k) 1 0 + cond (nat_eq k m) 1 0) now ∙ (goes-on k m t first first_is ∙ ap (λ o. cond (begins_at o k) 1 0 + option_map_or (λ j. cond (nat_eq k j) 1 0) first 0) (sym was))
+      where
+        cond-key : (s : Subject) → cond (same_key s s) (moved first (old s)) (old s) ≡ moved first (old s)
+        cond-key s = ap (λ b. cond b (moved first (old s)) (old s)) (key-refl s)
+
+    apart-here : (k : ℕ) (other : Sent) → at_number rows k ≡ Some other → same_key row.subject other.subject ≡ false → cond (begins_at (new other.subject) k) 1 0 + cond (nat_eq k m) 1 0 ≡ cond (begins_at (old other.subject) k) 1 0 + option_map_or (λ j. cond (nat_eq k j) 1 0) first 0
+    apart-here k other at apart =
+        let is : about rows other.subject k ≡ true = about-row rows other.subject k other at ∙ subject-refl other.subject in
+        let off : about rows row.subject k ≡ false = refute (about rows row.subject k) (λ on. sym (about-other rows row.subject other.subject k apart on) ∙ is) in
+        let kept : new other.subject ≡ old other.subject = updates other.subject ∙ ap (λ b. cond b (moved first (old row.subject)) (old other.subject)) apart in
+        both-none (begins_at (new other.subject) k) (begins_at (old other.subject) k) (option_map_or (λ j. cond (nat_eq k j) 1 0) first 0) (ap (λ o. begins_at o k) kept) (off-first k off first found) (nat_eq k m) (off-m k off)
+
+    counted-row : (k : ℕ) (here : Option Sent) → at_number rows k ≡ here → cond (option_map_or (λ (row : Sent). begins_at (new row.subject) k) here false) 1 0 + cond (nat_eq k m) 1 0 ≡ cond (option_map_or (λ (row : Sent). begins_at (old row.subject) k) here false) 1 0 + option_map_or (λ j. cond (nat_eq k j) 1 0) first 0
+    counted-row k None at =
+        let off : about rows row.subject k ≡ false = ap (λ here. option_map_or (λ (other : Sent). same_subject other.subject row.subject) here false) at in
+        both-none false false (option_map_or (λ j. cond (nat_eq k j) 1 0) first 0) refl (off-first k off first found) (nat_eq k m) (off-m k off)
+    counted-row k (Some other) at = by (same_key row.subject other.subject) refl
+      where
+        by : (b : Bool) → same_key row.subject other.subject ≡ b → cond (begins_at (new other.subject) k) 1 0 + cond (nat_eq k m) 1 0 ≡ cond (begins_at (old other.subject) k) 1 0 + option_map_or (λ j. cond (nat_eq k j) 1 0) first 0
+        by true same = moved-here k other (key-same row.subject other.subject same)
+        by false apart = apart-here k other at apart
+
+    counted : (k : ℕ) → cond (begins_now k) 1 0 + cond (nat_eq k m) 1 0 ≡ times k fronts + option_map_or (λ j. cond (nat_eq k j) 1 0) first 0
+    counted k =
+        ap (λ b. cond b 1 0 + cond (nat_eq k m) 1 0) (read-marked (λ (row : Sent). begins_at (new row.subject) k) false m rows k (λ row. refl))
+        ∙ (counted-row k (at_number rows k) refl ∙ ap (λ n. n + option_map_or (λ j. cond (nat_eq k j) 1 0) first 0) (sym (begun.once k)))
+
+-- the numbers at which threads begin, where a later one of a thread was settled
+kept-fronts : (m : ℕ) (rows : List Sent) (found : Subject → Option Thread) (fronts : List ℕ) → AreFronts (begins rows found) fronts → AreFronts (begins (changed_at m marked rows) found) fronts
+kept-fronts m rows found fronts begun = record {
+  once = λ k. begun.once k ∙ ap (λ b. cond b 1 0) (sym (read-marked (λ (row : Sent). begins_at (found row.subject) k) false m rows k (λ row. refl)));
+  rising = begun.rising;
+}
+
+-- the number at which a thread begins is among them
+pub front-there : (m : ℕ) (rows : List Sent) (row : Sent) (threads : Threads) (fronts : List ℕ) (changes : ℕ) → IsOutbox rows threads fronts changes → at_number rows m ≡ Some row → begins_at (thread_of threads row.subject) m ≡ true → 0 < times m fronts
+front-there m rows row threads fronts changes is there at_first =
+    let here : begins rows (thread_of threads) m ≡ true = ap (λ found. option_map_or (λ (row : Sent). begins_at (thread_of threads row.subject) m) found false) there ∙ at_first in
+    let once : times m fronts ≡ 1 = is.begun.once m ∙ ap (λ b. cond b 1 0) here in
+    omega (arith, once)
+
 -- an outbox where what was settled is the first of its thread
-pub settled-first : (m : ℕ) (rows : List Sent) (row : Sent) (old new : Threads) (changes : ℕ) (first : Option ℕ) → IsOutbox rows old changes → at_number rows m ≡ Some row → row.settled ≡ false → begins_at (thread_of old row.subject) m ≡ true → ((s : Subject) (t : Thread) → IsWalk (changed_at m marked rows) s t row.next → IsFound (waiting (changed_at m marked rows) s) t.first first) → ((s : Subject) → thread_of new s ≡ cond (same_key row.subject s) (moved first (thread_of old row.subject)) (thread_of old s)) → IsOutbox (changed_at m marked rows) new changes
-settled-first m rows row old new changes first was there unsettled begins finds updates =
-    let held = thread-there rows m row (thread_of old row.subject) there unsettled (was.threaded row.subject) in
-    marked-outbox m rows old new changes was (marked-moved m rows row (thread_of old) (thread_of new) held.0 first there held.1 (begins-first (thread_of old row.subject) held.0 m held.1 begins) finds updates was.threaded)
+pub settled-first : (m : ℕ) (rows : List Sent) (row : Sent) (old new : Threads) (fronts after : List ℕ) (changes : ℕ) (first : Option ℕ) → IsOutbox rows old fronts changes → at_number rows m ≡ Some row → row.settled ≡ false → begins_at (thread_of old row.subject) m ≡ true → ((s : Subject) (t : Thread) → IsWalk (changed_at m marked rows) s t row.next → IsFound (waiting (changed_at m marked rows) s) t.first first) → ((s : Subject) → thread_of new s ≡ cond (same_key row.subject s) (moved first (thread_of old row.subject)) (thread_of old s)) → ((k : ℕ) → times k after + cond (nat_eq k m) 1 0 ≡ times k fronts + option_map_or (λ j. cond (nat_eq k j) 1 0) first 0) → IsNonDecreasing after → IsOutbox (changed_at m marked rows) new after changes
+settled-first m rows row old new fronts after changes first was there unsettled begins finds updates more rising =
+    marked-outbox m rows old new fronts after changes was (marked-moved m rows row (thread_of old) (thread_of new) held.0 first there held.1 begun finds updates was.threaded)
+    (moved-fronts m rows row (thread_of old) (thread_of new) held.0 first fronts after there held.1 begun about-first updates was.begun more rising)
+  where
+    held : (t : Thread) × (thread_of old row.subject ≡ Some t)
+    held = thread-there rows m row (thread_of old row.subject) there unsettled (was.threaded row.subject)
+
+    begun : held.0.first ≡ m
+    begun = begins-first (thread_of old row.subject) held.0 m held.1 begins
+
+    about-first : (j : ℕ) → first ≡ Some j → about rows row.subject j ≡ true
+    about-first j e =
+        let here = subst (ThreadIs (about rows row.subject) (waiting rows row.subject) (next_of rows)) held.1 (was.threaded row.subject) in
+        let found = subst (IsFound (waiting (changed_at m marked rows) row.subject) held.0.first) e (finds row.subject held.0 (walk-begins m rows row row.subject held.0 there begun here)) in
+        sym (about-marked m rows row.subject j) ∙ waits-about (changed_at m marked rows) row.subject j found.0.waits
 
 -- an outbox where what was settled is a later one of its thread
-pub settled-later : (m : ℕ) (rows : List Sent) (row : Sent) (threads : Threads) (changes : ℕ) → IsOutbox rows threads changes → at_number rows m ≡ Some row → begins_at (thread_of threads row.subject) m ≡ false → IsOutbox (changed_at m marked rows) threads changes
-settled-later m rows row threads changes was there later = marked-outbox m rows threads threads changes was (marked-kept m rows row (thread_of threads) there later was.threaded)
+pub settled-later : (m : ℕ) (rows : List Sent) (row : Sent) (threads : Threads) (fronts : List ℕ) (changes : ℕ) → IsOutbox rows threads fronts changes → at_number rows m ≡ Some row → begins_at (thread_of threads row.subject) m ≡ false → IsOutbox (changed_at m marked rows) threads fronts changes
+settled-later m rows row threads fronts changes was there later = marked-outbox m rows threads threads fronts fronts changes was (marked-kept m rows row (thread_of threads) there later was.threaded) (kept-fronts m rows (thread_of threads) fronts was.begun)

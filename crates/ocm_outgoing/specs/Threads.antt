@@ -1,5 +1,6 @@
-use Rattle.std.specs.Prelude.{◌≡◌, ◌≢◌, ℕ, ◌<◌, ◌≤◌, List, length, map as list_map, nat_eq, Bool, true, false, not, ◌&&◌, Option, Some, None, option_map, filter_map}
+use Rattle.std.specs.Prelude.{◌≡◌, ◌≢◌, ℕ, ◌<◌, ◌≤◌, List, length, map as list_map, nat_eq, Bool, true, false, not, ◌&&◌, cond, count_by, Option, Some, None, option_map, filter_map}
 use Rattle.std.specs.Option.{option_map_or}
+use Rattle.std.specs.List.Sorted.{IsNonDecreasing}
 use Rattle.std.specs.HashMap as map
 use Rattle.std.specs.HashMap.{HashMap}
 use Rattle.std.specs.declared.hash.FoldHasher.{FoldHasher}
@@ -88,12 +89,30 @@ pub record IsWalk (rows : List Sent) (s : Subject) (t : Thread) (j : ℕ) : Type
 abbrev pub HaveNumbers : List Sent → Type 0
 HaveNumbers rows = (i : ℕ) → option_map_or (λ (row : Sent). nat_eq row.numbered.number i) (at_number rows i) true ≡ true
 
--- what an outbox keeps: at most 1,048,576 numbered rows, how many of them tell changed permissions, and the threads of what waits
-pub record IsOutbox (rows : List Sent) (threads : Threads) (changes : ℕ) : Type 0 where
+-- how often a number is in a list
+abbrev pub times : ℕ → List ℕ → ℕ
+times k xs = count_by (nat_eq k) xs
+
+-- whether a thread begins at this number
+abbrev pub begins_at : Option Thread → ℕ → Bool
+begins_at thread number = option_map_or (λ (t : Thread). nat_eq t.first number) thread false
+
+-- whether the thread of what the message of a number is about begins at it
+abbrev pub begins : List Sent → (Subject → Option Thread) → ℕ → Bool
+begins rows found k = option_map_or (λ (row : Sent). begins_at (found row.subject) k) (at_number rows k) false
+
+-- these numbers are those that pass, each once, in order
+pub record AreFronts (flag : ℕ → Bool) (fronts : List ℕ) : Type 0 where
+  pub once : (k : ℕ) → times k fronts ≡ cond (flag k) 1 0
+  pub rising : IsNonDecreasing fronts
+
+-- what an outbox keeps: at most 1,048,576 numbered rows, how many of them tell changed permissions, the threads of what waits, and the numbers at which these begin
+pub record IsOutbox (rows : List Sent) (threads : Threads) (fronts : List ℕ) (changes : ℕ) : Type 0 where
   pub few : length rows ≤ most_messages
   pub numbers : HaveNumbers rows
   pub counted : changes ≡ change_count (messages (rows_of rows))
   pub threaded : (s : Subject) → ThreadIs (about rows s) (waiting rows s) (next_of rows) (thread_of threads s)
+  pub begun : AreFronts (begins rows (thread_of threads)) fronts
 
 -- a row whose message is settled now
 abbrev pub marked : Sent → Sent
@@ -112,10 +131,6 @@ with_link (Some t) number rows = changed_at t.last (linked number) rows
 abbrev pub first_or : ℕ → Option Thread → ℕ
 first_or number older = option_map_or (λ (t : Thread). t.first) older number
 
--- whether a thread begins at this number
-abbrev pub begins_at : Option Thread → ℕ → Bool
-begins_at thread number = option_map_or (λ (t : Thread). nat_eq t.first number) thread false
-
 -- a thread that begins later, or none where nothing of it waits
 abbrev pub moved : Option ℕ → Option Thread → Option Thread
 moved None t = None
@@ -129,7 +144,3 @@ IsFound waiting first (Some j) = IsFirst waiting j × (first ≤ j)
 -- the messages of these numbers
 abbrev pub at_numbers : List Sent → List ℕ → List Numbered
 at_numbers rows ns = filter_map (λ n. option_map (λ (row : Sent). row.numbered) (at_number rows n)) ns
-
--- the number of the first of each thread
-abbrev pub firsts : Threads → List ℕ
-firsts threads = list_map (λ (t : Thread). t.first) (map.values threads)

@@ -5,11 +5,12 @@ ghost use Rattle.ocm_rules.specs.Settlements.{settles};
 ghost use Rattle.ocm_rules.specs.State.{changed_at, new_sent_row};
 ghost use Rattle.ocm_outgoing.specs.Lists.{messages, is_settled, message_at, numbered_at, subject_at, settled_row, due_in};
 
+use crate::fronts::{begin, go_on};
 use crate::rows::{Sent, Thread};
-use crate::walks::{begins_at, copies, first_numbers, first_waiting, link_last, mark, move_first};
+use crate::walks::{begins_at, copies, first_waiting, link_last, mark, move_first};
 use ocm_base::{List, NoMemory};
 use ocm_rules::{Subject, is_change, row_at, settles};
-use ocm_types::{Host, Letter, Numbered, ProviderId};
+use ocm_types::{Host, Letter, Numbered, ProviderId, Shared};
 use std::alloc::Global;
 use std::collections::HashMap;
 use std::marker::Model;
@@ -22,6 +23,8 @@ pub struct Outbox {
     rows: Vec<Sent>,
     // The thread of each thing about which a message waits, and of no other.
     threads: HashMap<Subject, Thread>,
+    // The numbers of the first messages of all threads, in order.
+    fronts: Vec<u32>,
     changes: u32,
     alloc: Global,
 }
@@ -31,6 +34,7 @@ impl Drop for Outbox {
         let Outbox {
             rows: _,
             threads: _,
+            fronts: _,
             changes: _,
             alloc: _,
         } = self;
@@ -47,10 +51,10 @@ impl Model for Outbox {
 
     ghost view = { λ outbox. record {
       sent = rows_of outbox.rows.items;
-      room = min (vec_capacity outbox.rows - vec_len outbox.rows) (map.spare outbox.threads);
+      room = min (min (vec_capacity outbox.rows - vec_len outbox.rows) (map.spare outbox.threads)) (vec_capacity outbox.fronts - vec_len outbox.fronts);
     } };
 
-    ghost invariant = { λ outbox. IsOutbox outbox.rows.items outbox.threads outbox.changes };
+    ghost invariant = { λ outbox. IsOutbox outbox.rows.items outbox.threads outbox.fronts.items outbox.changes };
 }
 
 impl Outbox {
@@ -61,6 +65,7 @@ impl Outbox {
         Outbox {
             rows: Vec::new(alloc),
             threads: HashMap::new(alloc),
+            fronts: Vec::new(alloc),
             changes: 0,
             alloc,
         }
@@ -113,11 +118,12 @@ impl Outbox {
     {
         self.rows.reserve(k as usize)?;
         self.threads.reserve(k as usize)?;
+        self.fronts.reserve(k as usize)?;
         Ok(())
     }
 
-    /// Adds a message, and gives its number. It takes no memory.
-    pub fn push(&mut self, subject: Subject, to: Host, letter: Letter) -> u32
+    /// Adds a message, and gives its number. It takes no memory. What is due shares the host and the letter.
+    pub fn push(&mut self, subject: Subject, to: Shared<Host>, letter: Shared<Letter>) -> u32
         requires room { 0 < self.old.room }
         requires few { length self.old.sent < most_messages }
         ensures sent { self.new.sent ≡ self.old.sent ++ new_sent_row (record { subject = subject; to = to; letter = letter }) ∷ [] }
@@ -127,6 +133,7 @@ impl Outbox {
         let number = self.rows.len() as u32 + 1;
         let older = self.threads.get(&subject).copied();
         let first = link_last(&mut self.rows, older, number);
+        begin(&mut self.fronts, older, number);
         self.changes += u32::from(is_change(&letter));
         let thread = Thread {
             first,
@@ -170,6 +177,7 @@ impl Outbox {
         if begins_at(self.threads.get(&subject), m) {
             let first = first_waiting(&self.rows, next);
             move_first(&mut self.threads, subject, first);
+            go_on(&mut self.fronts, m, first);
         }
     }
 
@@ -177,7 +185,6 @@ impl Outbox {
     pub fn due(&self) -> Result<List<Numbered>, NoMemory>
         ensures { IfOk result (λ due. due ≡ due_in self.now.sent) }
     {
-        let numbers = first_numbers(self.alloc, &self.threads)?;
-        copies(self.alloc, &self.rows, &numbers)
+        copies(self.alloc, &self.rows, &self.fronts)
     }
 }

@@ -1,13 +1,11 @@
 ghost use Rattle.std.specs.Prelude.{◌≡◌, ◌≤◌, ◌<◌, ◌+◌, length, cond, Some, ◌++◌, IfOk, OnOk, IsSome, option_copied, option_map, option_to_list, vec_len, vec_capacity};
-ghost use Rattle.std.specs.HashMap.{IsUnique, spare};
-ghost use Rattle.std.specs.List.Sorted.{IsPermutation, IsSorted};
-ghost use Rattle.std.specs.Ordering.{nat_cmp};
+ghost use Rattle.std.specs.HashMap.{spare};
 ghost use Rattle.ocm_rules.specs.declared.rows.Subject.{Subject};
 ghost use Rattle.ocm_rules.specs.Numbers.{at_number};
 ghost use Rattle.ocm_rules.specs.State.{changed_at};
 ghost use Rattle.ocm_outgoing.specs.declared.rows.Sent.{Sent};
 ghost use Rattle.ocm_outgoing.specs.declared.rows.Thread.{Thread};
-ghost use Rattle.ocm_outgoing.specs.Threads.{marked, linked, with_link, first_or, begins_at, moved, waiting, IsWalk, IsFound, at_numbers, firsts, same_key, thread_of};
+ghost use Rattle.ocm_outgoing.specs.Threads.{marked, linked, with_link, first_or, begins_at, moved, waiting, IsWalk, IsFound, at_numbers, same_key, thread_of};
 
 use crate::rows::{Sent, Thread};
 use ocm_base::{List, NoMemory};
@@ -99,23 +97,6 @@ pub fn move_first(threads: &mut HashMap<Subject, Thread>, subject: Subject, firs
             let _thread = threads.remove(&subject);
         }
     }
-}
-
-/// The numbers of the first messages of all threads, in order.
-pub fn first_numbers(
-    alloc: Global,
-    threads: &HashMap<Subject, Thread>,
-) -> Result<Vec<u32>, NoMemory>
-    ensures numbers { IfOk result (λ numbers. IsPermutation (firsts threads.now) numbers.items) }
-    ensures sorted { IfOk result (λ numbers. IsSorted nat_cmp numbers.items) }
-    ensures unique { IfOk result (λ _. IsUnique same_key threads.now) }
-{
-    let mut numbers: Vec<u32> = Vec::with_capacity(alloc, threads.len())?;
-    for thread in threads.values() {
-        numbers.push(thread.first)?;
-    }
-    numbers.sort_unstable();
-    Ok(numbers)
 }
 
 // Adds the message of this number once more to a list, if there is one.

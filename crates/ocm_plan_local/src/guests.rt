@@ -58,7 +58,7 @@ pub fn plan_accept(
     if !is_pending(received.phase) {
         return Ok(Planned::refused(tables, Why::WrongPhase));
     }
-    let message = acceptance(number, &received.offer)?;
+    let message = acceptance(tables.allocator(), number, &received.offer)?;
     let sent = one_message(tables, message)?;
     let phase = Phase::Accepting;
     let change = Change::SetPhase { number, phase };
@@ -81,7 +81,7 @@ pub fn plan_decline(
     if !is_declinable(received.phase) {
         return Ok(Planned::refused(tables, Why::WrongPhase));
     }
-    let message = refusal(number, &received.offer)?;
+    let message = refusal(tables.allocator(), number, &received.offer)?;
     let sent = one_message(tables, message)?;
     let phase = Phase::Declined;
     let change = Change::SetPhase { number, phase };
@@ -192,7 +192,7 @@ fn plan_taken_back(
     let Some(child) = child_of(&row.state) else {
         return Ok(Planned::refused(tables, Why::WrongPhase));
     };
-    let message = undo_of(request, &received.offer, child)?;
+    let message = undo_of(tables.allocator(), request, &received.offer, child)?;
     let sent = one_message(tables, message)?;
     let change = Change::TakeBack { request };
     Ok(Planned::new(tables, Reply::Done, change, sent))

@@ -2,7 +2,7 @@ ghost use Rattle.std.specs.Prelude.{◌≡◌, IfOk};
 
 use ocm_entry::Share;
 use ocm_texts::NoMemory;
-use ocm_types::{Host, Letter, Offer, Perms, Phase};
+use ocm_types::{Host, Letter, Offer, Perms, Phase, Shared};
 
 /// What a message is about. Of the messages about one thing, the later wait for the earlier.
 #[derive(Clone, Copy, Debug, PartialEq, Eq, Hash)]
@@ -15,13 +15,14 @@ pub enum Subject {
     Request { request: u32 },
 }
 
-/// A message to another server. A server's messages are numbered from 1.
+/// A message to another server. A server's messages are numbered from 1. Its copies share the host and
+/// the letter.
 #[derive(Drop)]
 pub struct Message {
     pub subject: Subject,
     /// The server that it is for.
-    pub to: Host,
-    pub letter: Letter,
+    pub to: Shared<Host>,
+    pub letter: Shared<Letter>,
 }
 
 impl Message {

@@ -19,5 +19,5 @@ pub use gates::{GateConn, GateEvent, GateSink, GateSource, gate_conn};
 pub use nodes::Node;
 pub use pairs::{MemConn, Pair, PureConn};
 pub use responding::respond;
-pub use resting::{RestConn, RestSource, rest_conn};
+pub use resting::{RestConn, rest_conn};
 pub use serving::serve_conn;

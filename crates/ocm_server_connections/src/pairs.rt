@@ -50,8 +50,9 @@ impl<S: Source, K: Sink> Conn for Pair<S, K> {
         reader.next(&mut self.source)
     }
 
+    /// Never: a source cannot be asked.
     fn rests(&mut self) -> bool {
-        self.source.rests()
+        false
     }
 
     fn send(&mut self, piece: &Joined) -> Result<(), Failed> {

@@ -1,43 +1,45 @@
 //! Connections in memory that rest where nothing is left.
 
-ghost use Rattle.std.specs.Prelude.{◌≡◌, ◌==◌, Some, length};
+ghost use Rattle.std.specs.Prelude.{◌≡◌, ◌==◌, length};
 
-use crate::pairs::{MemConn, Pair};
-use ocm_base::{Failed, MemSink, MemSource, Source};
-
-/// A source in memory that rests where nothing is left.
-#[derive(Drop)]
-pub struct RestSource {
-    source: MemSource,
-}
+use crate::conns::Conn;
+use crate::pairs::MemConn;
+use ocm_base::{Failed, Joined};
+use ocm_http::{Fixed, FrameFault, Message, Reader};
 
 /// A connection in memory that rests where nothing is left of what it gives.
-pub type RestConn = Pair<RestSource, MemSink>;
+#[derive(Drop)]
+pub struct RestConn {
+    pub pair: MemConn,
+}
 
-impl Source for RestSource {
-    ghost left = { λ s. Some s.source.left };
+impl Conn for RestConn {
+    ghost sides = { λ c. ⟦<MemConn as Conn>⟧.sides c.pair };
 
-    ghost faults = { λ s. s.source.faults };
-
-    fn read(&mut self, buf: &mut [u8]) -> Result<usize, Failed> {
-        self.source.read(buf)
+    fn next(&mut self, reader: &mut Reader) -> Result<Option<Message>, FrameFault> {
+        self.pair.next(reader)
     }
 
     /// Exactly where nothing is left.
     fn rests(&mut self) -> bool
-        ensures exact { result ≡ (length self.old.source.left == 0) }
+        ensures exact { result ≡ (length self.old.pair.source.left == 0) }
         ensures same { self.new ≡ self.old }
     {
-        self.source.is_empty()
+        self.pair.source.is_empty()
+    }
+
+    fn send(&mut self, piece: &Joined) -> Result<(), Failed> {
+        self.pair.send(piece)
+    }
+
+    fn send_fixed(&mut self, which: Fixed) -> Result<(), Failed> {
+        self.pair.send_fixed(which)
     }
 }
 
 /// The connection, which rests where nothing is left of what it gives.
 pub fn rest_conn(conn: MemConn) -> RestConn
-    ensures left { ⟦<RestSource as Source>⟧.left result.source ≡ ⟦<MemSource as Source>⟧.left conn.source }
-    ensures read_faults { ⟦<RestSource as Source>⟧.faults result.source ≡ ⟦<MemSource as Source>⟧.faults conn.source }
-    ensures sink { result.sink ≡ conn.sink }
+    ensures { result.pair ≡ conn }
 {
-    let Pair { source, sink } = conn;
-    Pair::new(RestSource { source }, sink)
+    RestConn { pair: conn }
 }

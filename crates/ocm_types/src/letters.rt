@@ -6,6 +6,7 @@ use crate::identifiers::{ProviderId, SenderId};
 use crate::names::ShareName;
 use crate::rights::Perms;
 use crate::secrets::Secret;
+use crate::shared::Shared;
 use ocm_texts::{Copied, NoMemory, and};
 
 /// The same value once more, where there is one.
@@ -290,14 +291,14 @@ impl Copied for Letter {
     }
 }
 
-/// A letter that waits to be sent.
+/// A letter that waits to be sent. Its copies share the host and the letter.
 pub struct Numbered {
     /// Its number among the letters of its server.
     pub number: u32,
     /// The server that it is for.
-    pub to: Host,
+    pub to: Shared<Host>,
     /// What it says.
-    pub letter: Letter,
+    pub letter: Shared<Letter>,
 }
 
 impl Drop for Numbered {

@@ -13,6 +13,7 @@ mod names;
 mod phases;
 mod rights;
 mod secrets;
+mod shared;
 mod texts;
 
 pub use address_faults::AddressFault;
@@ -25,4 +26,5 @@ pub use names::{Name, ShareName};
 pub use phases::{Phase, RequestPhase, Which};
 pub use rights::{Need, Perms, Rights};
 pub use secrets::Secret;
+pub use shared::Shared;
 pub use texts::TextFault;

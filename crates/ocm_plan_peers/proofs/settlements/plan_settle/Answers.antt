@@ -37,7 +37,7 @@ returns-then-not-settles c =
 pub outcome_of-requires : goal.outcome_of-requires
 outcome_of-requires c =
     let v = view_in c.args.tables.now.state in
-    message-letter c.args.number (at_number v.messages c.args.number) c.in-Some.message.now (sym (ap option_copied c.in-Some.is) ∙ c.message.ensures)
+    rw c.deref.ensures (message-letter c.args.number (at_number v.messages c.args.number) c.in-Some.message.now (sym (ap option_copied c.in-Some.is) ∙ c.message.ensures))
 
 pub returns : goal.returns
 returns c =

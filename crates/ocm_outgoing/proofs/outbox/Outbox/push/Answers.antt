@@ -21,7 +21,8 @@ invariant_of-self c =
     let few : length c.self.inside.rows.items < 1048576 = fewer c.self.inside.rows.items (rw (← c.self.view_is) at c.requires.few) in
     let number : c.len.result + 1 ≡ length c.self.inside.rows.items + 1 = grind (arith, common_steps) in
     let adds : c.from.result ≡ cond (is_change c.args.letter) 1 0 = search rules in
-    rw items (pushed-outbox c.self.inside.rows.items c.self.inside.threads c.insert-threaded.new.self c.self.inside.changes c.from.result (c.len.result + 1) row c.self.invariant few number refl refl refl adds updates)
+    let begun = rw older at c.begin.ensures.times in
+    rw items (pushed-outbox c.self.inside.rows.items c.self.inside.threads c.insert-threaded.new.self c.self.inside.fronts.items c.begin.new.fronts.items c.self.inside.changes c.from.result (c.len.result + 1) row c.self.invariant few number refl refl refl adds updates begun c.begin.ensures.rising)
 
 pub returns-clause-sent : goal.returns-clause-sent
 returns-clause-sent c =

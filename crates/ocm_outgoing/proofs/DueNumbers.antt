@@ -1,28 +1,24 @@
-use Rattle.std.proofs.Common.{◌≡◌, ◌≢◌, ℕ, zero, suc, ◌+◌, ◌<◌, ◌≤◌, List, [], ◌∷◌, length, Bool, true, false, cond, Option, Some, None, refl, sym, ap, subst, ◌∙◌, arith, ◌⊎◌, ⊎_elim, inl, inr, IsPermutation, is_some}
+use Rattle.std.proofs.Common.{◌≡◌, ◌≢◌, ℕ, zero, suc, ◌+◌, ◌<◌, ◌≤◌, List, [], ◌∷◌, length, Bool, true, false, Option, Some, None, refl, sym, ap, ◌∙◌, arith, ◌⊎◌, ⊎_elim, inl, inr, is_some}
 use Rattle.std.specs.Prelude.{nat_eq, nat_lt, not, ◌&&◌, ◌||◌, slice_get, option_map}
 use Rattle.std.specs.List.{list_any}
-use Rattle.std.specs.List.Sorted.{IsNonDecreasing}
-use Rattle.std.specs.HashMap as hash
 use Rattle.std.specs.Option.{option_map_or}
-use Rattle.std.proofs.lemmas.List.Sorted.{sum_by-IsPermutation}
 use Rattle.std.proofs.lemmas.Bool.{false≢true}
 use Rattle.std.proofs.lemmas.Bool.Decides.{nat_tests}
 use Rattle.ocm_types.specs.declared.letters.Numbered.{Numbered}
 use Rattle.ocm_rules.specs.declared.rows.Message.{Message}
 use Rattle.ocm_rules.specs.declared.rows.Subject.{Subject}
-use Rattle.ocm_rules.specs.declared.rows.Subject.TheVariants.{Share}
 use Rattle.ocm_rules.specs.Numbers.{at_number}
 use Rattle.ocm_rules.specs.Settlements.{same_subject}
 use Rattle.ocm_rules.specs.Messages.{numbered_from, as_sent, is_due, holds_back}
 use Rattle.ocm_outgoing.specs.declared.rows.Sent.{Sent}
 use Rattle.ocm_outgoing.specs.declared.rows.Thread.{Thread}
 use Rattle.ocm_outgoing.specs.Lists.{messages, message_at, is_settled, due_in}
-use Rattle.ocm_outgoing.specs.Threads.{about, waiting, next_of, begins_at, same_key, firsts, thread_of, Threads, ThreadIs, IsOutbox, row_of, rows_of, at_numbers}
+use Rattle.ocm_outgoing.specs.Threads.{about, waiting, next_of, begins_at, begins, thread_of, Threads, ThreadIs, IsOutbox, row_of, rows_of, at_numbers}
 use Rattle.ocm_outgoing.proofs.Found.{at_number-map, message_at-rows, numbered_found}
-use Rattle.ocm_outgoing.proofs.Reading.{waiting-row, about-row, about-there, fewer, at_number-past}
-use Rattle.ocm_outgoing.proofs.Counts.{times, lists-counted, rises}
-use Rattle.ocm_outgoing.proofs.Due.{Agrees, selected, count-firsts, weaker}
-use Rattle.ocm_outgoing.proofs.Subjects.{subject-same, subject-refl, key-refl}
+use Rattle.ocm_outgoing.proofs.Reading.{waiting-row, about-there, fewer, at_number-past}
+use Rattle.ocm_outgoing.proofs.Counts.{lists-counted, rises}
+use Rattle.ocm_outgoing.proofs.Due.{Agrees, selected, weaker}
+use Rattle.ocm_outgoing.proofs.Subjects.{subject-refl}
 
 agrees-from : (p : ℕ × Message → Bool) (flag : ℕ → Bool) (get : ℕ → Option Numbered) (n : ℕ) (ms : List Message) → ((k j : ℕ) (m : Message) → j ≡ n + k → slice_get ms k ≡ Some m → (p (j, m) ≡ flag j) × (get j ≡ Some (as_sent (j, m)))) → ((k : ℕ) → n + length ms ≤ k → flag k ≡ false) → Agrees p flag get n ms
 agrees-from p flag get n [] each past = λ k h. past k (omega (arith, h))
@@ -108,10 +104,6 @@ lt-from i j e = grind (arith, nat_tests)
 lt-to : (i j : ℕ) → i < j → nat_lt i j ≡ true
 lt-to i j h = grind (arith, nat_tests)
 
--- whether the thread of what a message is about begins at it
-abbrev pub begins : List Sent → Threads → ℕ → Bool
-begins rows threads k = option_map_or (λ (row : Sent). begins_at (thread_of threads row.subject) k) (at_number rows k) false
-
 due-by : (rows : List Sent) (j : ℕ) (m : Message) (row : Sent) (found : Option Thread) → at_number rows j ≡ Some row → row.subject ≡ m.subject → ThreadIs (about rows m.subject) (waiting rows m.subject) (next_of rows) found → is_due (is_settled (rows_of rows)) (numbered_from 1 (messages (rows_of rows))) (j, m) ≡ begins_at found j
 due-by rows j m row None there same idle =
     let settled = settled-not-waiting (same_subject row.subject m.subject) row.settled (ap (λ s. same_subject s m.subject) same ∙ subject-refl m.subject) (sym (waiting-row rows m.subject j row there) ∙ idle j) in
@@ -178,67 +170,27 @@ due-by rows j m row (Some t) there same is = ⊎_elim at_first (λ ne. ⊎_elim 
             any-true (holds_back (is_settled (rows_of rows)) (j, m)) 1 (messages (rows_of rows)) k (suc k) (row_of first.0).message (omega arith) here
             (holds-at rows j (suc k) m (row_of first.0).message here ∙ and-true (nat_lt (suc k) j) (waiting rows m.subject (suc k)) (lt-to (suc k) j (omega (arith, earlier, e))) waits)
 
-begins-some : (o : Option Thread) (k : ℕ) → begins_at o k ≡ true → (t : Thread) × (o ≡ Some t) × (t.first ≡ k)
-begins-some None k e = absurd (false≢true e)
-begins-some (Some t) k e = (t, refl, nat-same t.first k e)
-  where
-    nat-same : (i j : ℕ) → nat_eq i j ≡ true → i ≡ j
-    nat-same i j e = grind (arith, nat_tests)
-
-about-first : (rows : List Sent) (s : Subject) (t : Thread) (k : ℕ) (found : Option Thread) → found ≡ Some t → t.first ≡ k → ThreadIs (about rows s) (waiting rows s) (next_of rows) found → about rows s k ≡ true
-about-first rows s t k None e first is = absurd (cc)
-about-first rows s t k (Some u) e first is = ⊎_elim (λ there. there) (λ off. absurd (false≢true (sym (fewer rows s k off) ∙ waits))) (cases (about rows s k))
-  where
-    cases : (b : Bool) → (b ≡ true) ⊎ (b ≡ false)
-    cases true = inl refl
-    cases false = inr refl
-
-    waits : waiting rows s k ≡ true
-    waits = let same : u ≡ t = cc in sym (ap (waiting rows s) (ap (λ (t : Thread). t.first) same ∙ first)) ∙ is.1.waits
-
-times-by : (rows : List Sent) (threads : Threads) (k : ℕ) (found : Option Sent) → at_number rows k ≡ found → hash.IsUnique same_key threads → ((s : Subject) → ThreadIs (about rows s) (waiting rows s) (next_of rows) (thread_of threads s)) → times k (firsts threads) ≡ cond (option_map_or (λ (row : Sent). begins_at (thread_of threads row.subject) k) found false) 1 0
-times-by rows threads k (Some row) there unique is =
-    count-firsts k row.subject threads.entries unique (λ s t found first.
-    let of : about rows s k ≡ true = about-first rows s t k (thread_of threads s) found first (is s) in
-    let same : row.subject ≡ s = subject-same row.subject s (sym (about-row rows s k row there) ∙ of) in
-    subst (λ (s : Subject). same_key row.subject s ≡ true) same (key-refl row.subject))
-times-by rows threads k None there unique is =
-    count-firsts k (Share 0) threads.entries unique (λ s t found first. absurd (nowhere s (about-first rows s t k (thread_of threads s) found first (is s))))
-    ∙ ap (λ b. cond b 1 0) (either (begins_at (thread_of threads (Share 0)) k) (λ e.
-    let some = begins-some (thread_of threads (Share 0)) k e in
-    absurd (nowhere (Share 0) (about-first rows (Share 0) some.0 k (thread_of threads (Share 0)) some.1 some.2 (is (Share 0))))))
-  where
-    nowhere : (s : Subject) → about rows s k ≡ true → ⊥
-    nowhere s e = false≢true (sym (ap (λ found. option_map_or (λ (row : Sent). same_subject row.subject s) found false) there) ∙ e)
-
-    either : (b : Bool) → (b ≡ true → b ≡ false) → b ≡ false
-    either true h = h refl
-    either false h = refl
-
-begins-past : (rows : List Sent) (threads : Threads) (k : ℕ) → length rows < k → begins rows threads k ≡ false
-begins-past rows threads k h = ap (λ found. option_map_or (λ (row : Sent). begins_at (thread_of threads row.subject) k) found false) (at_number-past rows k h)
+begins-past : (rows : List Sent) (found : Subject → Option Thread) (k : ℕ) → length rows < k → begins rows found k ≡ false
+begins-past rows found k h = ap (λ there. option_map_or (λ (row : Sent). begins_at (found row.subject) k) there false) (at_number-past rows k h)
 
 length-messages : (rows : List Sent) → length (messages (rows_of rows)) ≡ length rows
 length-messages [] = refl
 length-messages (row ∷ rows) = ap suc (length-messages rows)
 
--- the numbers of the first of each thread, in order, are those of what is due
-pub due-numbers : (rows : List Sent) (threads : Threads) (changes : ℕ) (xs : List ℕ) → IsOutbox rows threads changes → hash.IsUnique same_key threads → IsPermutation (firsts threads) xs → IsNonDecreasing xs → at_numbers rows xs ≡ due_in (rows_of rows)
-due-numbers rows threads changes xs is unique permuted up =
-    selected (is_due (is_settled (rows_of rows)) (numbered_from 1 (messages (rows_of rows)))) (begins rows threads) (λ n. option_map (λ (row : Sent). row.numbered) (at_number rows n)) 1 (messages (rows_of rows)) xs
-    (agrees-from (is_due (is_settled (rows_of rows)) (numbered_from 1 (messages (rows_of rows)))) (begins rows threads) (λ n. option_map (λ (row : Sent). row.numbered) (at_number rows n)) 1 (messages (rows_of rows)) each past)
-    (weaker (begins rows threads) 0 xs refl (lists-counted (begins rows threads) 0 xs (rises xs up) counts))
+-- the numbers at which the threads begin, in order, are those of what is due
+pub due-numbers : (rows : List Sent) (threads : Threads) (fronts : List ℕ) (changes : ℕ) → IsOutbox rows threads fronts changes → at_numbers rows fronts ≡ due_in (rows_of rows)
+due-numbers rows threads fronts changes is =
+    selected (is_due (is_settled (rows_of rows)) (numbered_from 1 (messages (rows_of rows)))) (begins rows (thread_of threads)) (λ n. option_map (λ (row : Sent). row.numbered) (at_number rows n)) 1 (messages (rows_of rows)) fronts
+    (agrees-from (is_due (is_settled (rows_of rows)) (numbered_from 1 (messages (rows_of rows)))) (begins rows (thread_of threads)) (λ n. option_map (λ (row : Sent). row.numbered) (at_number rows n)) 1 (messages (rows_of rows)) each past)
+    (weaker (begins rows (thread_of threads)) 0 fronts refl (lists-counted (begins rows (thread_of threads)) 0 fronts (rises fronts is.begun.rising) (λ k h. is.begun.once k)))
   where
-    counts : (k : ℕ) → 0 ≤ k → times k xs ≡ cond (begins rows threads k) 1 0
-    counts k h = sum_by-IsPermutation (λ y. cond (nat_eq k y) 1 0) (firsts threads) xs permuted ∙ times-by rows threads k (at_number rows k) refl unique is.threaded
-
-    past : (k : ℕ) → 1 + length (messages (rows_of rows)) ≤ k → begins rows threads k ≡ false
-    past k h = begins-past rows threads k (omega (arith, h, length-messages rows))
+    past : (k : ℕ) → 1 + length (messages (rows_of rows)) ≤ k → begins rows (thread_of threads) k ≡ false
+    past k h = begins-past rows (thread_of threads) k (omega (arith, h, length-messages rows))
 
     at-place : (k j : ℕ) (m : Message) → j ≡ 1 + k → slice_get (messages (rows_of rows)) k ≡ Some m → message_at (rows_of rows) j ≡ Some m
     at-place k j m e got = let same : j ≡ suc k = omega arith in ap (message_at (rows_of rows)) same ∙ got
 
-    each : (k j : ℕ) (m : Message) → j ≡ 1 + k → slice_get (messages (rows_of rows)) k ≡ Some m → (is_due (is_settled (rows_of rows)) (numbered_from 1 (messages (rows_of rows))) (j, m) ≡ begins rows threads j) × (option_map (λ (row : Sent). row.numbered) (at_number rows j) ≡ Some (as_sent (j, m)))
+    each : (k j : ℕ) (m : Message) → j ≡ 1 + k → slice_get (messages (rows_of rows)) k ≡ Some m → (is_due (is_settled (rows_of rows)) (numbered_from 1 (messages (rows_of rows))) (j, m) ≡ begins rows (thread_of threads) j) × (option_map (λ (row : Sent). row.numbered) (at_number rows j) ≡ Some (as_sent (j, m)))
     each k j m e got =
         let here = at-place k j m e got in
         let found = message-row rows j m here in
