@@ -1,5 +1,6 @@
 pub mod Deliveries
 pub mod Fitting
+pub mod Listings
 pub mod Proper
 pub mod Refusals
 pub mod Ticks
