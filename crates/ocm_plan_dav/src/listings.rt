@@ -38,11 +38,7 @@ pub fn plan_items(tables: &Tables, place: &Place, path: &Path) -> Result<Planned
 }
 
 /// What stands at a path, and behind it what lies in it.
-fn listing(
-    path: &Path,
-    standing: &Standing,
-    inside: List<DavChild>,
-) -> Result<DavItems, NoMemory>
+fn listing(path: &Path, standing: &Standing, inside: List<DavChild>) -> Result<DavItems, NoMemory>
     ensures { IfOk result (λ items. items ≡ item path.now standing.now ∷ map (item_in path.now) inside) }
 {
     match path.copy() {
