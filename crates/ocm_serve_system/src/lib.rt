@@ -4,11 +4,13 @@
 #![tactic(auto)]
 
 mod admin_keys;
+mod host_names;
 mod notes;
 mod openings;
 mod told_disks;
 
 pub use admin_keys::read_admin;
+pub use host_names::tell_host;
 pub use notes::{Note, tell_end, tell_fault, tell_place};
 pub use openings::{Cause, OpenFault, Opening, StandIns};
 pub use told_disks::ToldDisk;
