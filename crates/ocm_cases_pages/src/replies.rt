@@ -3,7 +3,7 @@ ghost use Rattle.std.specs.Prelude.{IfSome};
 ghost use Rattle.ocm_dav_pages.specs.Pages.{HasPage};
 
 use ocm_base::List;
-use ocm_entry::{AddressField, DavItem, Line, Reply, Why};
+use ocm_entry::{AddressField, DavChild, DavItems, Line, Reply, Why};
 use ocm_path::Path;
 use ocm_records::read_offer;
 use ocm_types::{Address, Name, Perms, Phase, ProviderId, RequestPhase, Secret, Which};
@@ -128,30 +128,54 @@ fn why_of(words: &str) -> Option<Why> {
     }
 }
 
-/// Items, each as a path and a size, with `-` for the size of a collection, and `, ` between them.
-fn items(alloc: Global, row: &str) -> Option<List<DavItem>> {
-    let mut items = List::new(alloc);
-    match add_items(alloc, &mut items, row) {
-        Some(()) => Some(items),
+/// Items, each as a path and a size, with `-` for the size of a collection, and `, ` between them: what stands at a
+/// path, and then what lies in it.
+fn items(alloc: Global, row: &str) -> Option<DavItems> {
+    let (first, rest) = row.split_once(", ").unwrap_or((row, ""));
+    let inside = children(alloc, rest)?;
+    match item(alloc, first) {
+        Some((path, size)) => Some(DavItems::of(path, size, inside)),
         None => {
-            drop(items);
+            drop(inside);
             None
         }
     }
 }
 
-fn add_items(alloc: Global, items: &mut List<DavItem>, row: &str) -> Option<()> {
+fn children(alloc: Global, row: &str) -> Option<List<DavChild>> {
+    let mut inside = List::new(alloc);
+    match add_children(alloc, &mut inside, row) {
+        Some(()) => Some(inside),
+        None => {
+            drop(inside);
+            None
+        }
+    }
+}
+
+fn add_children(alloc: Global, inside: &mut List<DavChild>, row: &str) -> Option<()> {
     for words in row.split(", ") {
-        add_item(alloc, items, words)?;
+        if !words.is_empty() {
+            inside.push(child(alloc, words)?).ok()?;
+        }
     }
     Some(())
 }
 
-fn add_item(alloc: Global, items: &mut List<DavItem>, words: &str) -> Option<()> {
+fn child(alloc: Global, words: &str) -> Option<DavChild> {
+    let (path, size) = item(alloc, words)?;
+    let name = match path.last() {
+        Some(name) => Some(name.copy().ok()?),
+        None => None,
+    };
+    Some(DavChild { name, size })
+}
+
+fn item(alloc: Global, words: &str) -> Option<(Path, Option<u64>)> {
     let (path, size) = words.split_once(' ')?;
     let size = size_of(size)?;
     let path = Path::read(alloc, path).ok()?;
-    items.push(DavItem { path, size }).ok()
+    Some((path, size))
 }
 
 fn size_of(word: &str) -> Option<Option<u64>> {

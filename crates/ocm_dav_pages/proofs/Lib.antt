@@ -1,3 +1,4 @@
 pub mod DocumentLaws
 pub mod ErrorLaws
 pub mod ListingLaws
+pub mod Responses

@@ -1,8 +1,8 @@
 -- What stands at a path and in it, as XML (RFC 4918 sections 9.1, 14 and 15).
-use Rattle.std.specs.Prelude.{ℕ, List, [], ◌∷◌, ◌++◌, if◌then◌else◌, codes, Option, Some, None}
+use Rattle.std.specs.Prelude.{ℕ, List, [], ◌∷◌, ◌++◌, ◌&&◌, is_some, if◌then◌else◌, codes, Option, Some, None}
 use Rattle.std.specs.Fmt.{decimal}
 use Rattle.std.specs.List.{flat_map}
-use Rattle.ocm_path.specs.Paths.{Segments, is_root, path_escaped}
+use Rattle.ocm_path.specs.Paths.{Segments, is_root, joined_escaped, path_escaped}
 use Rattle.ocm_entry.specs.declared.listings.DavItem.{DavItem}
 
 -- a document's first line
@@ -29,6 +29,21 @@ response item =
     codes "<D:response><D:href>" ++ href item.path item.size
     ++ codes "</D:href><D:propstat><D:prop>" ++ properties item.size
     ++ codes "</D:prop><D:status>HTTP/1.1 200 OK</D:status></D:propstat></D:response>"
+
+-- what stands behind the path of a resource: the `/` of a collection, and its properties
+unfoldable pub behind : Option ℕ → List ℕ
+behind (Some size) =
+    codes "</D:href><D:propstat><D:prop><D:resourcetype/><D:getcontentlength>" ++ decimal size
+    ++ codes "</D:getcontentlength></D:prop><D:status>HTTP/1.1 200 OK</D:status></D:propstat></D:response>"
+behind None = codes "/</D:href><D:propstat><D:prop><D:resourcetype><D:collection/></D:resourcetype></D:prop><D:status>HTTP/1.1 200 OK</D:status></D:propstat></D:response>"
+
+-- the `/` of a root that is a file
+abbrev pub root_slash : Segments → Option ℕ → List ℕ
+root_slash path size = if is_root path && is_some size then codes "/" else []
+
+-- what is told of a resource in the collection at a path, up to its name
+abbrev pub front : Segments → List ℕ
+front path = codes "<D:response><D:href>/dav" ++ joined_escaped path ++ codes "/"
 
 abbrev pub multistatus : List DavItem → List ℕ
 multistatus items = declaration ++ codes "<D:multistatus xmlns:D=\"DAV:\">" ++ flat_map response items ++ codes "</D:multistatus>"

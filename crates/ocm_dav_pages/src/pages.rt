@@ -83,7 +83,7 @@ pub fn page_of(alloc: Global, reply: &Reply, shape: &Shape) -> Result<Page, NoMe
         Reply::Child { id } => child_page(alloc, *id, shape),
         Reply::Listing { lines } => listing_page(alloc, lines.as_slice(), shape),
         Reply::File { body } => file_page(alloc, body, shape),
-        Reply::Items { items } => items_page(alloc, items.as_slice(), shape),
+        Reply::Items { items } => items_page(alloc, items, shape),
         Reply::Created => bare_page(alloc, 201, shape),
         Reply::Done | Reply::Replaced | Reply::Removed => bare_page(alloc, 204, shape),
         Reply::Refused { why } => refusal_page(alloc, *why, shape),

@@ -1,3 +1,4 @@
 pub mod Fitting
+pub mod Listings
 pub mod Proper
 pub mod Refusals

@@ -7,6 +7,7 @@
 
 mod asks;
 mod entries;
+mod items;
 mod listings;
 mod object;
 mod refusals;
@@ -15,7 +16,8 @@ mod rows;
 
 pub use asks::{Ask, Cmd, Method};
 pub use entries::Entry;
-pub use listings::{DavItem, Line};
+pub use items::DavItems;
+pub use listings::{DavChild, DavItem, Line};
 pub use object::Object;
 pub use refusals::{AddressField, Why};
 pub use replies::Reply;

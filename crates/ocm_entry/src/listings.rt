@@ -1,7 +1,7 @@
 ghost use Rattle.std.specs.Prelude.{◌≡◌, IfOk};
 
 use ocm_path::Path;
-use ocm_texts::{Copied, NoMemory, and};
+use ocm_texts::{Copied, NoMemory, Text, and};
 use ocm_types::{Address, Offer, Perms, Phase, RequestPhase};
 
 /// What stands at a path, as PROPFIND tells it (RFC 4918 section 9.1).
@@ -15,6 +15,20 @@ pub struct DavItem {
 impl Drop for DavItem {
     fn drop(self) {
         let DavItem { path: _, size: _ } = self;
+    }
+}
+
+/// What lies in a collection.
+pub struct DavChild {
+    /// The last segment of its path. The root, which lies in itself, has none.
+    pub name: Option<Text>,
+    /// The bytes of a file, and none for a collection.
+    pub size: Option<u64>,
+}
+
+impl Drop for DavChild {
+    fn drop(self) {
+        let DavChild { name: _, size: _ } = self;
     }
 }
 
@@ -70,21 +84,24 @@ impl Drop for Line {
     }
 }
 
-impl DavItem {
-    /// The same item once more.
-    pub fn copy(&self) -> Result<DavItem, NoMemory>
-        ensures { IfOk result (λ i. i ≡ self.now) }
+impl DavChild {
+    /// The same once more.
+    pub fn copy(&self) -> Result<DavChild, NoMemory>
+        ensures { IfOk result (λ child. child ≡ self.now) }
     {
-        let path = self.path.copy()?;
-        Ok(DavItem {
-            path,
+        let name = match &self.name {
+            Some(name) => Some(name.copy()?),
+            None => None,
+        };
+        Ok(DavChild {
+            name,
             size: self.size,
         })
     }
 }
 
-impl Copied for DavItem {
-    fn copied(&self) -> Result<DavItem, NoMemory> {
+impl Copied for DavChild {
+    fn copied(&self) -> Result<DavChild, NoMemory> {
         self.copy()
     }
 }

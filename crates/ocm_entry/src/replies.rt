@@ -1,6 +1,7 @@
 ghost use Rattle.std.specs.Prelude.{◌≡◌, IfOk};
 
-use crate::listings::{DavItem, Line};
+use crate::items::DavItems;
+use crate::listings::Line;
 use crate::refusals::Why;
 use ocm_texts::{Bytes, List, NoMemory};
 use ocm_types::{Name, Numbered, Secret};
@@ -26,7 +27,7 @@ pub enum Reply {
     /// The bytes of a file.
     File { body: Bytes },
     /// What stands at a path, and in it.
-    Items { items: List<DavItem> },
+    Items { items: DavItems },
     /// Something stands where nothing stood.
     Created,
     /// Something stands in the place of what stood.

@@ -1,10 +1,12 @@
 -- The texts of segments after a `/` each.
-use Rattle.std.proofs.Common.{◌≡◌, ℕ, ◌+◌, ◌≤◌, max, arith, List, [], ◌∷◌, ◌++◌, length, take, drop, true, false, refl, ap, sym, ◌∙◌, length-append, take-append-drop}
+use Rattle.std.proofs.Common.{◌≡◌, ℕ, ◌+◌, ◌≤◌, max, arith, List, [], ◌∷◌, ◌++◌, length, take, drop, true, false, refl, ap, sym, ◌∙◌, length-append, append_assoc, take-append-drop}
 use Rattle.std.specs.List.{list_all}
 use Rattle.std.proofs.lemmas.Bool.{and_parts, and_from, leb-true, le-leb, cond-false, ne_eqb}
+use Rattle.std.proofs.lemmas.List.{append-nil}
 use Rattle.std.proofs.lemmas.List.Concat.{flat_map-append}
 use Rattle.std.proofs.lemmas.List.Folds.{list_all-append}
-use Rattle.ocm_path.specs.Paths.{Segments, is_root, joined, path_text, is_segment, is_path}
+use Rattle.ocm_path.specs.Escapes.{escape}
+use Rattle.ocm_path.specs.Paths.{Segments, is_root, joined, joined_escaped, path_text, is_segment, is_path}
 
 -- a path with a segment is not the root
 pub is_root-cons : (s : List ℕ) (ss : Segments) → is_root (s ∷ ss) ≡ false
@@ -50,3 +52,16 @@ is_path-moved to path n sound_to sound short =
     let each = and_parts (list_all is_segment path) _ sound in
     let both = and_parts (list_all is_segment (take n path)) _ (sym (list_all-append is_segment (take n path) (drop n path)) ∙ ap (list_all is_segment) (take-append-drop n path) ∙ each.0) in
     is_path-from_parts (to ++ drop n path) (list_all-append is_segment to (drop n path) ∙ and_from _ _ first.0 both.1) short
+
+-- ---- one segment more
+
+-- a path with one segment more is not the root
+pub is_root-named : (path : Segments) (name : List ℕ) → is_root (path ++ name ∷ []) ≡ false
+is_root-named [] name = is_root-cons name []
+is_root-named (s ∷ ss) name = is_root-cons s (ss ++ name ∷ [])
+
+-- the escaped text of a path with one segment more
+pub joined_escaped-named : (path : Segments) (name : List ℕ) → joined_escaped (path ++ name ∷ []) ≡ joined_escaped path ++ 47 ∷ [] ++ escape name
+joined_escaped-named path name =
+    flat_map-append (λ segment. 47 ∷ escape segment) path (name ∷ [])
+    ∙ (ap (λ t. joined_escaped path ++ t) (append-nil (47 ∷ escape name)) ∙ sym (append_assoc (joined_escaped path) (47 ∷ []) (escape name)))

@@ -18,7 +18,8 @@ pub const ESCAPED: AsciiSet = ascii_set!(
         .remove(b'~')
 );
 
-/// Adds a segment to a text, escaped.
+/// Adds a segment to a text, percent-encoded (RFC 3986 section 2.1): all but ASCII letters, digits, `-`, `.`, `_` and `~`
+/// (section 2.3), in upper-case digits.
 pub fn add_escaped(text: &mut String, segment: &str) -> Result<(), NoMemory>
     ensures ok { OnOk result (string_bytes text.new ≡ string_bytes text.old ++ escape segment.now) }
     ensures err { OnErr result (string_bytes text.new ≡ string_bytes text.old) }

@@ -8,6 +8,7 @@ mod paths;
 mod reading;
 mod segments;
 
+pub use escapes::add_escaped;
 pub use faults::PathFault;
 pub use laws::escaped_reads_back;
 pub use paths::Path;

@@ -1,6 +1,6 @@
-ghost use Rattle.std.specs.Prelude.{◌≡◌, ◌≢◌, [], ◌++◌, ◌≤◌, length, drop, Some, None, Ok, Err, IfOk, IfErr, IsTrue, option_copied};
+ghost use Rattle.std.specs.Prelude.{◌≡◌, ◌≢◌, [], ◌++◌, ◌≤◌, length, drop, Some, None, Ok, Err, IfOk, IfErr, IsTrue, option_copied, string_bytes};
 ghost use Rattle.ocm_limits.specs.Limits.{most_asked_path_bytes, most_path_bytes};
-ghost use Rattle.ocm_path.specs.Paths.{parent, is_root, last, is_above, path_text, path_escaped, is_path, path_below, path_of, path_given};
+ghost use Rattle.ocm_path.specs.Paths.{parent, is_root, last, is_above, path_text, joined_escaped, path_escaped, is_path, path_below, path_of, path_given};
 ghost use Rattle.ocm_path.specs.PathTexts.{below_slash, path_with_text};
 
 use crate::faults::PathFault;
@@ -162,6 +162,14 @@ impl Path {
         }
         let text = joined_escaped(alloc, self.segments.as_slice())?;
         Ok(Text::from_string(text))
+    }
+
+    /// What stands before the `/` of a segment below this path: the segments, each percent-encoded and after a `/`,
+    /// and nothing for the root.
+    pub fn escaped_front(&self) -> Result<String, NoMemory>
+        ensures { IfOk result (λ text. string_bytes text ≡ joined_escaped self.now) }
+    {
+        joined_escaped(self.segments.allocator(), self.segments.as_slice())
     }
 
     /// The path without its last segment; the root's is the root.

@@ -1,12 +1,13 @@
 //! PROPFIND (RFC 4918 section 9.1), for those who may read.
-ghost use Rattle.std.specs.Prelude.{◌≡◌, ◌∷◌, IfOk, IsTrue};
+ghost use Rattle.std.specs.Prelude.{◌≡◌, ◌∷◌, map, IfOk, IsTrue};
+ghost use Rattle.ocm_entry.specs.Listings.{item_in};
 ghost use Rattle.ocm_entry.specs.Proper.{is_short};
 ghost use Rattle.ocm_entry.specs.declared.asks.Method.TheVariants as methods;
 ghost use Rattle.ocm_rules.specs.Answers.{item, item_size};
 ghost use Rattle.ocm_plan_dav.specs.Requests.{PlansBodiless};
 
 use ocm_base::{List, NoMemory};
-use ocm_entry::{DavItem, Place, Reply, Standing, Why};
+use ocm_entry::{DavChild, DavItems, Place, Reply, Standing, Why};
 use ocm_path::Path;
 use ocm_plan::Planned;
 use ocm_tables::Tables;
@@ -31,7 +32,7 @@ pub fn plan_items(tables: &Tables, place: &Place, path: &Path) -> Result<Planned
     let Some(standing) = tables.standing_at(place) else {
         return Ok(Planned::refused(tables, Why::NotFound));
     };
-    let inside = tables.files().items(place, path)?;
+    let inside = tables.files().children(place)?;
     let items = listing(path, standing, inside)?;
     Ok(Planned::only(tables, Reply::Items { items }))
 }
@@ -40,25 +41,17 @@ pub fn plan_items(tables: &Tables, place: &Place, path: &Path) -> Result<Planned
 fn listing(
     path: &Path,
     standing: &Standing,
-    inside: List<DavItem>,
-) -> Result<List<DavItem>, NoMemory>
-    ensures { IfOk result (λ items. items ≡ item path.now standing.now ∷ inside) }
+    inside: List<DavChild>,
+) -> Result<DavItems, NoMemory>
+    ensures { IfOk result (λ items. items ≡ item path.now standing.now ∷ map (item_in path.now) inside) }
 {
-    let mut items = inside.into_vec();
-    let first = item(path, standing)?;
-    items.insert(0, first)?;
-    Ok(List::from_vec(items))
-}
-
-/// What stands at a path.
-fn item(path: &Path, standing: &Standing) -> Result<DavItem, NoMemory>
-    ensures { IfOk result (λ item_there. item_there ≡ item path.now standing.now) }
-{
-    let path = path.copy()?;
-    Ok(DavItem {
-        path,
-        size: item_size(standing),
-    })
+    match path.copy() {
+        Ok(path) => Ok(DavItems::of(path, item_size(standing), inside)),
+        Err(NoMemory) => {
+            drop(inside);
+            Err(NoMemory)
+        }
+    }
 }
 
 /// The bytes of a file; a collection has none.

@@ -1,5 +1,5 @@
 -- The further lines of a reply in a transcript: what a user lists, and what stands in a collection.
-use Rattle.std.specs.Prelude.{ℕ, List, ◌∷◌, ◌++◌, Bool, true, false, if◌then◌else◌, Option, Some, None, codes}
+use Rattle.std.specs.Prelude.{ℕ, List, [], ◌∷◌, ◌++◌, Bool, true, false, if◌then◌else◌, Option, Some, None, codes}
 use Rattle.std.specs.Fmt.{decimal}
 use Rattle.ocm_path.specs.Escapes.{escape}
 use Rattle.ocm_path.specs.Paths.{Segments, is_root, joined_escaped, path_escaped}
@@ -26,6 +26,11 @@ address_text address = escape address.user ++ 64 ∷ address.host
 abbrev pub href : Segments → Option ℕ → List ℕ
 href path (Some size) = codes "/dav" ++ path_escaped path
 href path None = if is_root path then codes "/dav/" else codes "/dav" ++ joined_escaped path ++ codes "/"
+
+-- the `/` behind the path of a collection that is not the root
+abbrev pub href_end : Option ℕ → List ℕ
+href_end (Some size) = []
+href_end None = codes "/"
 
 -- how many bytes a file has, or that it is a collection
 abbrev pub size_text : Option ℕ → List ℕ

@@ -3,14 +3,15 @@
 
 ghost use Rattle.std.specs.Prelude.{◌≡◌, [], ◌∷◌, ◌++◌, OnOk, codes, if◌then◌else◌};
 ghost use Rattle.std.specs.Fmt.{decimal};
+ghost use Rattle.ocm_entry.specs.Listings.{item_in};
 ghost use Rattle.ocm_path.specs.Escapes.{escape};
 ghost use Rattle.ocm_path.specs.Paths.{is_root, path_escaped};
 ghost use Rattle.ocm_types.specs.Rights.{perms_text};
-ghost use Rattle.ocm_transcript.specs.Items.{spaced, address_text, href, size_text, item_text, live_text, state_text, asked_text, listing_text};
+ghost use Rattle.ocm_transcript.specs.Items.{spaced, address_text, href, href_end, size_text, item_text, live_text, state_text, asked_text, listing_text};
 
 use crate::lines::{add_escaped, add_number};
 use ocm_base::{Bytes, NoMemory};
-use ocm_entry::{DavItem, Line};
+use ocm_entry::{DavChild, Line};
 use ocm_path::Path;
 use ocm_types::{Address, Offer, Perms, Phase, RequestPhase};
 use std::alloc::Global;
@@ -64,13 +65,66 @@ fn add_size(alloc: Global, text: &mut Bytes, size: Option<u64>) -> Result<(), No
 }
 
 /// Adds what stands at a path.
-pub fn add_item(alloc: Global, text: &mut Bytes, item: &DavItem) -> Result<(), NoMemory>
-    ensures { OnOk result (text.new ≡ text.old ++ item_text item.now) }
+pub fn add_item(
+    alloc: Global,
+    text: &mut Bytes,
+    path: &Path,
+    size: Option<u64>,
+) -> Result<(), NoMemory>
+    ensures { OnOk result (text.new ≡ text.old ++ item_text (record { path = path.now; size = size })) }
 {
-    add_href(text, &item.path, item.size)?;
+    add_href(text, path, size)?;
     text.add(b" ")?;
-    add_size(alloc, text, item.size)?;
+    add_size(alloc, text, size)?;
     Ok(())
+}
+
+/// Adds the `/` behind the path of a collection that is not the root.
+fn add_end(text: &mut Bytes, size: Option<u64>) -> Result<(), NoMemory>
+    ensures { OnOk result (text.new ≡ text.old ++ href_end size) }
+{
+    match size {
+        Some(_) => Ok(()),
+        None => text.add(b"/"),
+    }
+}
+
+/// Adds the path at the server of a resource with a name in the collection at a path.
+fn add_href_in(
+    alloc: Global,
+    text: &mut Bytes,
+    path: &Path,
+    name: &str,
+    size: Option<u64>,
+) -> Result<(), NoMemory>
+    ensures { OnOk result (text.new ≡ text.old ++ href (path.now ++ name.now ∷ []) size) }
+{
+    let front = path.escaped_front()?;
+    text.add(b"/dav")?;
+    text.add(front.as_bytes())?;
+    text.add(b"/")?;
+    add_escaped(alloc, text, name)?;
+    add_end(text, size)?;
+    Ok(())
+}
+
+/// Adds what lies in the collection at a path.
+pub fn add_child(
+    alloc: Global,
+    text: &mut Bytes,
+    path: &Path,
+    child: &DavChild,
+) -> Result<(), NoMemory>
+    ensures { OnOk result (text.new ≡ text.old ++ item_text (item_in path.now child.now)) }
+{
+    match &child.name {
+        Some(name) => {
+            add_href_in(alloc, text, path, name.as_str(), child.size)?;
+            text.add(b" ")?;
+            add_size(alloc, text, child.size)
+        }
+        None => add_item(alloc, text, path, child.size),
+    }
 }
 
 /// Adds an address, its user's name escaped.

@@ -5,14 +5,16 @@ ghost use Rattle.std.specs.Prelude.{◌≡◌, ◌++◌, ◌∷◌, map, IfOk, O
 ghost use Rattle.std.specs.Fmt.{decimal};
 ghost use Rattle.std.specs.List.{flat_map};
 ghost use Rattle.ocm_texts.specs.Hex.{hex};
+ghost use Rattle.ocm_entry.specs.Listings.{item_in};
 ghost use Rattle.ocm_path.specs.Escapes.{escape};
 ghost use Rattle.ocm_transcript.specs.Items.{item_text, listing_text};
 ghost use Rattle.ocm_transcript.specs.Texts as texts;
 
-use crate::items::{add_item, add_listed};
+use crate::items::{add_child, add_item, add_listed};
 use crate::lines::{add_escaped, add_number, line_start};
 use ocm_base::{Bytes, NoMemory, hex_of};
-use ocm_entry::{DavItem, Line, Reply, Why};
+use ocm_entry::{DavChild, DavItems, Line, Reply, Why};
+use ocm_path::Path;
 use ocm_types::Host;
 use std::alloc::Global;
 
@@ -112,23 +114,44 @@ fn add_listing(alloc: Global, text: &mut Bytes, lines: &[Line]) -> Result<(), No
     Ok(())
 }
 
-fn add_item_line(alloc: Global, text: &mut Bytes, item: &DavItem) -> Result<(), NoMemory>
-    ensures { OnOk result (text.new ≡ text.old ++ texts.further_line (item_text item.now)) }
+fn add_child_line(
+    alloc: Global,
+    text: &mut Bytes,
+    path: &Path,
+    child: &DavChild,
+) -> Result<(), NoMemory>
+    ensures { OnOk result (text.new
+        ≡ text.old ++ texts.further_line (item_text (item_in path.now child.now))) }
 {
     text.add(b"  ")?;
-    add_item(alloc, text, item)?;
+    add_child(alloc, text, path, child)?;
     text.add(b"\n")?;
     Ok(())
 }
 
-fn add_items(alloc: Global, text: &mut Bytes, items: &[DavItem]) -> Result<(), NoMemory>
+fn add_children(
+    alloc: Global,
+    text: &mut Bytes,
+    path: &Path,
+    inside: &[DavChild],
+) -> Result<(), NoMemory>
+    ensures { OnOk result (text.new
+        ≡ text.old ++ flat_map texts.further_line (map item_text (map (item_in path.now) inside.now))) }
+{
+    for child in inside {
+        add_child_line(alloc, text, path, child)?;
+    }
+    Ok(())
+}
+
+fn add_items(alloc: Global, text: &mut Bytes, items: &DavItems) -> Result<(), NoMemory>
     ensures { OnOk result (text.new
         ≡ text.old ++ flat_map texts.further_line (map item_text items.now)) }
 {
-    for item in items {
-        add_item_line(alloc, text, item)?;
-    }
-    Ok(())
+    text.add(b"  ")?;
+    add_item(alloc, text, items.path(), items.size())?;
+    text.add(b"\n")?;
+    add_children(alloc, text, items.path(), items.inside())
 }
 
 /// Adds the further lines of a reply.
@@ -138,7 +161,7 @@ fn add_further(alloc: Global, text: &mut Bytes, reply: &Reply) -> Result<(), NoM
 {
     match reply {
         Reply::Listing { lines } => add_listing(alloc, text, lines.as_slice()),
-        Reply::Items { items } => add_items(alloc, text, items.as_slice()),
+        Reply::Items { items } => add_items(alloc, text, items),
         _ => Ok(()),
     }
 }

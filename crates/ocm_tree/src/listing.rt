@@ -1,43 +1,20 @@
-ghost use Rattle.std.specs.Prelude.{◌≡◌, ◌≤◌, ◌++◌, ◌∷◌, [], length, map, filter, true, false, IfOk, OnOk};
-ghost use Rattle.ocm_limits.specs.Limits.{most_asked_path_bytes};
-ghost use Rattle.ocm_path.specs.Paths.{path_text};
-ghost use Rattle.ocm_rules.specs.Files.{name_at, same_place, parent_of, children};
+ghost use Rattle.std.specs.Prelude.{◌≡◌, ◌++◌, ◌∷◌, [], length, map, filter, true, false, IfOk, OnOk};
+ghost use Rattle.std.specs.Ordering.{nat_cmp};
+ghost use Rattle.std.specs.Cmp.Lexicographic.{slice_cmp};
+ghost use Rattle.ocm_rules.specs.Files.{same_place, parent_of, children};
 ghost use Rattle.ocm_rules.specs.Answers.{item_size};
-ghost use Rattle.ocm_tree.specs.declared.listing.Child.{Child};
 ghost use Rattle.ocm_tree.specs.Tables.{somes};
 ghost use Rattle.ocm_tree.specs.Standings.{numbers_in};
 ghost use Rattle.ocm_tree.specs.Tags.{parent_tag};
-ghost use Rattle.ocm_tree.specs.Listing.{child_of, in_order_of_names, lies_in, listed};
+ghost use Rattle.ocm_tree.specs.Listing.{child_of, name_of, in_order_of_names, lies_in, listed};
 
 use crate::kept::KeptNode;
 use crate::places::is_parent;
 use crate::tags::tag_of;
-use ocm_base::{List, NoMemory, Text};
-use ocm_entry::{DavItem, Node, Place, Standing};
-use ocm_path::Path;
+use ocm_base::{List, NoMemory};
+use ocm_entry::{DavChild, Node, Place, Standing};
 use std::alloc::Global;
-
-/// What lies in a collection, with the name by which it stands in order.
-pub struct Child {
-    pub name: Text,
-    pub item: DavItem,
-}
-
-impl Drop for Child {
-    fn drop(self) {
-        let Child { name: _, item: _ } = self;
-    }
-}
-
-impl Child {
-    /// What is told of it.
-    fn into_item(self) -> DavItem
-        ensures { result ≡ self.item }
-    {
-        let Child { name: _, item } = self;
-        item
-    }
-}
+use std::cmp::Ordering;
 
 /// The bytes of a file; a collection has none.
 fn item_size(standing: &Standing) -> Option<u64>
@@ -49,71 +26,72 @@ fn item_size(standing: &Standing) -> Option<u64>
     }
 }
 
-/// The name of what stands at a place: the last segment of its path, and none at a root.
-fn name_of(alloc: Global, node: &Node) -> Result<Text, NoMemory>
-    ensures name { IfOk result (λ name. name ≡ name_at node.now) }
-    ensures short { length (name_at node.now) ≤ 255 }
+/// A node as it is told of in the collection that it lies in.
+fn child_of(node: &Node) -> Result<DavChild, NoMemory>
+    ensures { IfOk result (λ child. child ≡ child_of node.now) }
 {
-    let _segments = node.place.path.segments();
+    let size = item_size(&node.standing);
     match node.place.path.last() {
-        Some(name) => name.copy(),
-        None => Text::of(alloc, ""),
+        Some(name) => Ok(DavChild {
+            name: Some(name.copy()?),
+            size,
+        }),
+        None => Ok(DavChild { name: None, size }),
     }
 }
 
-/// What lies in a collection, as it is told below the path of the collection.
-fn child_of(alloc: Global, node: &Node, place: &Place, path: &Path) -> Result<Child, NoMemory>
-    requires lies { same_place (parent_of node.now.place) place.now ≡ true }
-    requires short { length (path_text path.now) ≤ most_asked_path_bytes }
-    ensures { IfOk result (λ child. child ≡ child_of place.now path.now node.now) }
+/// The name of a child, and none at a root.
+fn name_of(child: &DavChild) -> &str
+    ensures { result.now ≡ name_of child.now }
 {
-    let name = name_of(alloc, node)?;
-    let path = node.place.path.moved(&place.path, path)?;
-    let size = item_size(&node.standing);
-    Ok(Child {
-        name,
-        item: DavItem { path, size },
-    })
+    match &child.name {
+        Some(name) => name.as_str(),
+        None => "",
+    }
+}
+
+/// How two names compare, byte by byte: names are short, and most of them differ early.
+fn compared(name: &str, other: &str) -> Ordering
+    ensures { result ≡ slice_cmp nat_cmp name.now other.now }
+{
+    name.as_bytes().iter().cmp(other.as_bytes().iter())
+}
+
+/// How the names of two children compare.
+fn by_name(child: &DavChild, other: &DavChild) -> Ordering
+    ensures { result ≡ slice_cmp nat_cmp (name_of child.now) (name_of other.now) }
+{
+    compared(name_of(child), name_of(other))
 }
 
 /// Sorts children by their names.
-fn sort_by_name(children: &mut Vec<Child>) -> Result<(), NoMemory>
+fn sort_by_name(children: &mut Vec<DavChild>) -> Result<(), NoMemory>
     ensures { OnOk result (children.new.items ≡ in_order_of_names children.old.items) }
 {
-    children.sort_by(|child, other| child.name.cmp(&other.name))?;
+    children.sort_by(|child, other| by_name(child, other))?;
     Ok(())
 }
 
 /// Adds what a node in a collection is told as.
-fn push_node(
-    found: &mut Vec<Child>,
-    node: &Node,
-    place: &Place,
-    path: &Path,
-) -> Result<(), NoMemory>
-    requires lies { same_place (parent_of node.now.place) place.now ≡ true }
-    requires short { length (path_text path.now) ≤ most_asked_path_bytes }
-    ensures { OnOk result (found.new.items ≡ found.old.items ++ child_of place.now path.now node.now ∷ []) }
+fn push_node(found: &mut Vec<DavChild>, node: &Node) -> Result<(), NoMemory>
+    ensures { OnOk result (found.new.items ≡ found.old.items ++ child_of node.now ∷ []) }
 {
-    let alloc = *found.allocator();
-    let child = child_of(alloc, node, place, path)?;
+    let child = child_of(node)?;
     found.push(child)?;
     Ok(())
 }
 
 /// Adds what the node of a slot is told as, where it lies in a collection.
 fn push_child(
-    found: &mut Vec<Child>,
+    found: &mut Vec<DavChild>,
     slot: &Option<KeptNode>,
     place: &Place,
-    path: &Path,
 ) -> Result<(), NoMemory>
-    requires short { length (path_text path.now) ≤ most_asked_path_bytes }
-    ensures { OnOk result (found.new.items ≡ found.old.items ++ listed (child_of place.now path.now) (lies_in place.now) slot.now) }
+    ensures { OnOk result (found.new.items ≡ found.old.items ++ listed child_of (lies_in place.now) slot.now) }
 {
     if let Some(kept) = slot {
         if is_parent(place, kept.place()) {
-            return push_node(found, kept.node(), place, path);
+            return push_node(found, kept.node());
         }
     }
     Ok(())
@@ -123,17 +101,15 @@ fn push_child(
 /// passes.
 fn push_where(
     test: bool,
-    found: &mut Vec<Child>,
+    found: &mut Vec<DavChild>,
     slot: &Option<KeptNode>,
     place: &Place,
-    path: &Path,
 ) -> Result<(), NoMemory>
-    requires short { length (path_text path.now) ≤ most_asked_path_bytes }
-    requires apart { test ≡ false → listed (child_of place.now path.now) (lies_in place.now) slot.now ≡ [] }
-    ensures { OnOk result (found.new.items ≡ found.old.items ++ listed (child_of place.now path.now) (lies_in place.now) slot.now) }
+    requires { test ≡ false → listed child_of (lies_in place.now) slot.now ≡ [] }
+    ensures { OnOk result (found.new.items ≡ found.old.items ++ listed child_of (lies_in place.now) slot.now) }
 {
     if test {
-        push_child(found, slot, place, path)
+        push_child(found, slot, place)
     } else {
         Ok(())
     }
@@ -146,47 +122,31 @@ fn unsorted_children(
     slots: &[Option<KeptNode>],
     tags: &[u64],
     place: &Place,
-    path: &Path,
-) -> Result<Vec<Child>, NoMemory>
-    requires short { length (path_text path.now) ≤ most_asked_path_bytes }
+) -> Result<Vec<DavChild>, NoMemory>
     requires same { length slots.now ≡ length tags.now }
     requires tagged { numbers_in slots.now tags.now ≡ map parent_tag (somes slots.now) }
-    ensures { IfOk result (λ found. found.items ≡ map (child_of place.now path.now) (filter (lies_in place.now) (somes slots.now))) }
+    ensures { IfOk result (λ found. found.items ≡ map child_of (filter (lies_in place.now) (somes slots.now))) }
 {
     let wanted = tag_of(place);
     let mut found = Vec::new(alloc);
     for (index, tag) in tags.iter().enumerate() {
-        push_where(*tag == wanted, &mut found, &slots[index], place, path)?;
+        push_where(*tag == wanted, &mut found, &slots[index], place)?;
     }
     Ok(found)
 }
 
-/// What lies in a collection, in byte order of the names, as it is told below the path of the
-/// collection.
+/// What lies in a collection, in byte order of the names.
 pub fn children_of(
     alloc: Global,
     slots: &[Option<KeptNode>],
     tags: &[u64],
     place: &Place,
-    path: &Path,
-) -> Result<Vec<Child>, NoMemory>
-    requires short { length (path_text path.now) ≤ most_asked_path_bytes }
+) -> Result<List<DavChild>, NoMemory>
     requires same { length slots.now ≡ length tags.now }
     requires tagged { numbers_in slots.now tags.now ≡ map parent_tag (somes slots.now) }
-    ensures { IfOk result (λ found. found.items ≡ map (child_of place.now path.now) (children (somes slots.now) place.now)) }
+    ensures { IfOk result (λ found. found ≡ map child_of (children (somes slots.now) place.now)) }
 {
-    let mut found = unsorted_children(alloc, slots, tags, place, path)?;
+    let mut found = unsorted_children(alloc, slots, tags, place)?;
     sort_by_name(&mut found)?;
-    Ok(found)
-}
-
-/// What is told of children.
-pub fn items_of(alloc: Global, children: Vec<Child>) -> Result<List<DavItem>, NoMemory>
-    ensures { IfOk result (λ items. items ≡ map (λ (child : Child). child.item) children.items) }
-{
-    let mut items = List::new(alloc);
-    for child in children {
-        items.push(child.into_item())?;
-    }
-    Ok(items)
+    Ok(List::from_vec(found))
 }

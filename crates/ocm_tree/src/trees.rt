@@ -1,7 +1,8 @@
-ghost use Rattle.std.specs.Prelude.{◌≡◌, ◌≢◌, ◌<◌, ◌≤◌, ◌+◌, ◌++◌, ℕ, [], All, length, Some, None, filter, IfOk, IfSome, IsSomeAnd, OnOk, option_copied, vec_capacity};
+ghost use Rattle.std.specs.Prelude.{◌≡◌, ◌≢◌, ◌<◌, ◌≤◌, ◌+◌, ◌++◌, ℕ, [], All, length, map, Some, None, filter, IfOk, IfSome, IsSomeAnd, OnOk, option_copied, vec_capacity};
 ghost use Rattle.std.specs.Option.{option_or};
-ghost use Rattle.ocm_limits.specs.Limits.{most_asked_path_bytes, most_file_bytes, most_nodes, most_stored_bytes};
-ghost use Rattle.ocm_path.specs.Paths.{path_text};
+ghost use Rattle.ocm_limits.specs.Limits.{most_file_bytes, most_nodes, most_stored_bytes};
+ghost use Rattle.ocm_path.specs.Paths.{Segments};
+ghost use Rattle.ocm_entry.specs.Listings.{item_in};
 ghost use Rattle.ocm_entry.specs.declared.rows.Node.{Node};
 ghost use Rattle.ocm_entry.specs.declared.rows.Standing.{Standing};
 ghost use Rattle.ocm_entry.specs.declared.rows.Standing.TheVariants.{Collection, File};
@@ -20,15 +21,14 @@ use crate::changes::{FileChange, Part};
 use crate::entry_numbers::EntryNumbers;
 use crate::firsts::first_standing;
 use crate::limits::{first_passed, growth, size_at};
-use crate::listing::{children_of, items_of};
+use crate::listing::children_of;
 use crate::nodes::NodeTable;
 use crate::numbers::{copy_numbers, drop_numbers};
 use crate::plans::PlannedNode;
 use crate::tags::{push_tags, tag_of};
 use ocm_base::{Bytes, List, NoMemory};
-use ocm_entry::{DavItem, Node, Place, Standing};
+use ocm_entry::{DavChild, Node, Place, Standing};
 use ocm_limits::MOST_FILE_BYTES;
-use ocm_path::Path;
 use ocm_types::Which;
 use std::alloc::Global;
 use std::marker::Model;
@@ -209,15 +209,16 @@ impl Tree {
         self.table.remove(place);
     }
 
-    /// What lies in the collection at a place, in byte order of the names, as it is told below a path
-    /// of at most 1,024 bytes.
-    pub fn items(&self, place: &Place, path: &Path) -> Result<List<DavItem>, NoMemory>
-        requires short { length (path_text path.now) ≤ most_asked_path_bytes }
-        ensures { IfOk result (λ items. items ≡ items_in self.now.nodes place.now path.now) }
+    /// What lies in the collection at a place, in byte order of the names.
+    pub fn children(&self, place: &Place) -> Result<List<DavChild>, NoMemory>
+        ensures { IfOk result (λ inside. (path : Segments) → map (item_in path) inside ≡ items_in self.now.nodes place.now path) }
     {
-        let alloc = self.table.allocator();
-        let children = children_of(alloc, self.table.slots(), &self.tags, place, path)?;
-        items_of(alloc, children)
+        children_of(
+            self.table.allocator(),
+            self.table.slots(),
+            &self.tags,
+            place,
+        )
     }
 
     /// The first limit that would be passed by a copy or move of what stands at `from`, and of all

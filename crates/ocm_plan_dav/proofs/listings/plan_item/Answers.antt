@@ -1,7 +1,9 @@
 use Rattle.std.proofs.Common.{List, [], ◌∷◌, refl, ◌∙◌, ap}
+use Rattle.std.specs.Prelude.{map}
+use Rattle.ocm_entry.specs.Listings.{item_in}
 use Rattle.ocm_entry.specs.declared.asks.Method.TheVariants as methods
 use Rattle.ocm_entry.specs.declared.refusals.Why.TheVariants.{NotFound}
-use Rattle.ocm_entry.specs.declared.listings.DavItem.{DavItem}
+use Rattle.ocm_entry.specs.declared.listings.DavChild.{DavChild}
 use Rattle.ocm_entry.specs.declared.replies.Reply.TheVariants as replies
 use Rattle.ocm_rules.specs.Answers.{item}
 use Rattle.ocm_rules.specs.State.{view_in}
@@ -21,6 +23,6 @@ returns c =
     let path = c.args.path.now in
     let at = c.in-Some.standing in
     λ body. tells st methods.List0 c.args.place.now path body (replies.Items c.in_ok-items.items) c.only.result
-    (ap replies.Items (c.in_ok-items.ensures ∙ ap (λ (inside : List DavItem). item path at.now ∷ inside) c.new.ensures)
+    (ap replies.Items (c.in_ok-items.ensures ∙ ap (λ (inside : List DavChild). item path at.now ∷ map (item_in path) inside) c.new.ensures)
     ∙ list-items [] path c.standing_at.result at ((view_in st).stands c.args.place.now) c.in-Some.is c.standing_at.ensures)
     (λ secret. refl) c.only.ensures.plans

@@ -22,6 +22,6 @@ returns c =
     let path = c.args.path.now in
     let at = c.in-Some.standing in
     λ body. tells st methods.List1 c.args.place.now path body (replies.Items c.in_ok-items.items) c.only.result
-    (ap replies.Items (c.in_ok-items.ensures ∙ ap (λ (inside : List DavItem). item path at.now ∷ inside) (c.in_ok-inside.ensures ∙ ap (λ (nodes : List Node). items_in nodes c.args.place.now path) c.files.ensures))
+    (ap replies.Items (c.in_ok-items.ensures ∙ ap (λ (inside : List DavItem). item path at.now ∷ inside) (c.in_ok-inside.ensures path ∙ ap (λ (nodes : List Node). items_in nodes c.args.place.now path) c.files.ensures))
     ∙ list-items (items_in st.nodes c.args.place.now c.args.path.now) path c.standing_at.result at ((view_in st).stands c.args.place.now) c.in-Some.is c.standing_at.ensures)
     (λ secret. refl) c.only.ensures.plans

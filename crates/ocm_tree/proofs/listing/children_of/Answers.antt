@@ -7,6 +7,7 @@ use Rattle.ocm_tree.proofs.listing.children_of.Goals as goal
 
 pub returns : goal.returns
 returns c =
-    c.in_ok-sort_by_name.ensures
-    ∙ ap in_order_of_names c.in_ok-found.ensures
-    ∙ in_order-map c.args.place.now c.args.path.now (filter (lies_in c.args.place.now) (somes c.args.slots.now))
+    c.from_vec.ensures
+    ∙ (c.in_ok-sort_by_name.ensures
+    ∙ (ap in_order_of_names c.in_ok-found.ensures
+    ∙ in_order-map (filter (lies_in c.args.place.now) (somes c.args.slots.now))))

@@ -5,4 +5,4 @@ use Rattle.ocm_tree.specs.Tables.{somes}
 use Rattle.ocm_tree.proofs.listing.unsorted_children.Given as goal
 
 abbrev pub invariant-loop-index : goal.invariant-loop-index
-invariant-loop-index l = l.found.items ≡ map (child_of l.place l.path) (filter (lies_in l.place) (somes (take l.index l.slots)))
+invariant-loop-index l = l.found.items ≡ map child_of (filter (lies_in l.place) (somes (take l.index l.slots)))
