@@ -1,5 +1,5 @@
 //! What is written of a change.
-ghost use Rattle.std.specs.Prelude.{◌≡◌, ◌≤◌, ◌+◌, ◌==◌, ℕ, List, length, min, if◌then◌else◌, unwrap_or, IsTrue, IfOk, OnOk};
+ghost use Rattle.std.specs.Prelude.{◌≡◌, ◌≤◌, ◌+◌, ◌==◌, ℕ, List, length, min, if◌then◌else◌, unwrap_or, true, IsTrue, IfOk, OnOk};
 ghost use Rattle.ocm_entry.specs.declared.entries.Entry.{Entry};
 ghost use Rattle.ocm_entry_bytes.specs.Spells.{Fits, has_spelling, spelling};
 ghost use Rattle.ocm_entry.specs.Ticks.{is_tick};
@@ -10,9 +10,9 @@ ghost use Rattle.ocm_history_records.specs.Drafts.{IsDraft};
 ghost use Rattle.ocm_history_records.specs.Kept.{is_tick_record, kept_at};
 
 use crate::kept::{KeptRecord, KeptRecords};
-use ocm_base::{Bytes, NoMemory};
+use ocm_base::{Bytes, NoMemory, and};
 use ocm_entry::Ask;
-use ocm_entry_bytes::encode;
+use ocm_entry_bytes::{add_ask, encode};
 use std::alloc::Global;
 
 /// A change as it is written, and what is kept of it in memory.
@@ -36,11 +36,11 @@ impl Draft {
         ensures size { IfOk result (λ draft. draft.size ≡ 5 + length (stamp clock ask.now)) }
         ensures fits { OnOk result (Fits ask.now) }
     {
-        let spelled = encode(alloc, ask)?;
-        let text = stamped(alloc, clock, ask, &spelled)?;
-        let newest = KeptRecord::of(alloc, clock, ask, text.as_slice())?;
+        let text = stamped(alloc, clock, ask)?;
+        let newest = KeptRecord::of(alloc, clock, ask, text.as_slice());
+        let (text, newest) = and(text, newest)?;
         let size = text.len() as u64 + 5;
-        let written = in_form(form, spelled, text);
+        let (newest, written) = and(newest, in_form(alloc, form, ask, text))?;
         Ok(Draft {
             written,
             newest,
@@ -86,23 +86,51 @@ impl Draft {
     }
 }
 
-/// The record of this form: the spelling alone, or that with its moment.
-fn in_form(form: u8, spelled: Bytes, text: Bytes) -> Bytes
-    ensures { result ≡ (if form == 1 then spelled else text) }
+/// The record of this form, of an ask whose record in form 2 this is: the spelling alone, or that with its moment.
+fn in_form(alloc: Global, form: u8, ask: &Ask, text: Bytes) -> Result<Bytes, NoMemory>
+    requires { IsTrue (has_spelling ask.now) }
+    ensures { IfOk result (λ written. written ≡ (if form == 1 then spelling ask.now else text)) }
 {
-    if form == 1 { spelled } else { text }
+    if form == 1 {
+        drop(text);
+        encode(alloc, ask)
+    } else {
+        Ok(text)
+    }
 }
 
-/// The record in form 2 of an ask at a moment.
-fn stamped(alloc: Global, clock: u64, ask: &Ask, spelled: &Bytes) -> Result<Bytes, NoMemory>
-    requires { spelled.now ≡ spelling ask.now }
-    ensures { IfOk result (λ text. text ≡ stamp clock ask.now) }
+/// The record in form 2 of an ask at a moment: the ask is spelled straight behind the moment.
+fn stamped(alloc: Global, clock: u64, ask: &Ask) -> Result<Bytes, NoMemory>
+    requires { IsTrue (has_spelling ask.now) }
+    ensures text { IfOk result (λ text. text ≡ stamp clock ask.now) }
+    ensures fits { OnOk result (Fits ask.now) }
 {
     let mut text = Bytes::of(alloc, &clock.to_be_bytes())?;
-    if !ask.is_tick() {
-        text.add(spelled.as_slice())?;
+    if !is_tick(ask) {
+        add_ask(alloc, &mut text, ask)?;
     }
     Ok(text)
+}
+
+/// Whether an ask is a tick.
+fn is_tick(ask: &Ask) -> bool
+    ensures is { result ≡ is_tick ask.now }
+    ensures fits { result ≡ true → Fits ask.now }
+{
+    match ask {
+        Ask::Tick { clock } => {
+            let _clock = *clock;
+            true
+        }
+        Ask::AddUser { .. }
+        | Ask::Local { .. }
+        | Ask::Offer { .. }
+        | Ask::Notice { .. }
+        | Ask::Dav { .. }
+        | Ask::Due
+        | Ask::Settle { .. }
+        | Ask::Carry { .. } => false,
+    }
 }
 
 /// The moment at an ask that changes something, where it was this before: that of a tick is its clock.
