@@ -1,4 +1,4 @@
-ghost use Rattle.std.specs.Prelude.{◌≡◌, ◌≤◌, Err};
+ghost use Rattle.std.specs.Prelude.{◌≡◌, ◌≤◌, true, Err};
 ghost use Rattle.ocm_base.specs.Outside.{Rose};
 ghost use Rattle.ocm_pump.specs.Exchanges.{AddsSome};
 ghost use Rattle.ocm_commands_dav.specs.Exchanges.{Calls, Works, without_status};
@@ -18,6 +18,7 @@ pub fn work<N: Dial>(
     body: &Bytes,
     dial: &mut N,
 ) -> Result<Bytes, ClientFault>
+    requires delivers { N.delivers dial.old ≡ true }
     ensures exact { AddsSome (N.exchanges dial.old) (N.exchanges dial.new) (λ added. Works task body.now added result) }
     ensures dial_fault { result ≡ Err ClientFault.DialFault → Rose (N.faults dial.old) (N.faults dial.new) }
     ensures never_falls { N.faults dial.old ≤ N.faults dial.new }
@@ -43,6 +44,7 @@ fn call<N: Dial>(
     body: &Bytes,
     dial: &mut N,
 ) -> Result<Bytes, ClientFault>
+    requires delivers { N.delivers dial.old ≡ true }
     ensures exact { AddsSome (N.exchanges dial.old) (N.exchanges dial.new) (λ added. Calls client.now verb path.now body.now added result) }
     ensures dial_fault { result ≡ Err ClientFault.DialFault → Rose (N.faults dial.old) (N.faults dial.new) }
     ensures never_falls { N.faults dial.old ≤ N.faults dial.new }

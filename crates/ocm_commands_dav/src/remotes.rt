@@ -1,4 +1,4 @@
-ghost use Rattle.std.specs.Prelude.{◌≡◌, ◌≢◌, ◌⊎◌, ◌<◌, List, ℕ, Result, IfSome, length, map};
+ghost use Rattle.std.specs.Prelude.{◌≡◌, ◌≢◌, ◌⊎◌, ◌<◌, List, ℕ, true, Result, IfSome, length, map};
 ghost use Rattle.std.specs.String.{string_bytes};
 ghost use Rattle.ocm_base.specs.Outside.{Appends, AppendsPart, Rose};
 ghost use Rattle.ocm_limits.specs.Limits.{most_body_bytes};
@@ -27,6 +27,8 @@ pub fn remote<S: Source, K: Sink, N: Dial>(
     sink: &mut K,
     dial: &mut N,
 ) -> End
+    requires delivers { N.delivers dial.old ≡ true }
+
     // other words: the line of the commands
     ensures usage { result ≡ End.Usage → IsOther (map (λ word. string_bytes word) words.now) }
     ensures usage_line { result ≡ End.Usage → Appends (K.taken sink.old) (K.taken sink.new) usage_line }
@@ -71,6 +73,7 @@ fn run<S: Source, K: Sink, N: Dial>(
     sink: &mut K,
     dial: &mut N,
 ) -> End
+    requires delivers { N.delivers dial.old ≡ true }
     ensures no_usage { result ≢ End.Usage }
     ensures unread { task.verb ≢ verbs.Put → source.new ≡ source.old }
     ensures read_fault { result ≡ End.ReadFault → (task.verb ≡ verbs.Put) × Rose (S.faults source.old) (S.faults source.new) }

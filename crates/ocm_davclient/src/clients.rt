@@ -1,4 +1,4 @@
-ghost use Rattle.std.specs.Prelude.{◌≡◌, ℕ, ◌≤◌, [], Err, IfOk, IsErrOf};
+ghost use Rattle.std.specs.Prelude.{◌≡◌, ℕ, ◌≤◌, true, [], Err, IfOk, IsErrOf};
 ghost use Rattle.ocm_base.specs.Outside.{Rose};
 ghost use Rattle.ocm_pump.specs.Exchanges.{AddsSome};
 ghost use Rattle.ocm_davclient.specs.Client as client;
@@ -52,6 +52,7 @@ impl Client {
         host: &Host,
         secret: Secret,
     ) -> Result<Client, ClientFault>
+        requires delivers { N.delivers dial.old ≡ true }
         // The exchanges that are added, and the answer by the bytes that came back in them.
         ensures exact { AddsSome (N.exchanges dial.old) (N.exchanges dial.new) (λ added. client.Finds host.now secret added result) }
         // What is no reply, or has another status, is passed over by the search.
@@ -59,6 +60,7 @@ impl Client {
         ensures no_status { (code : ℕ) → IsErrOf result (ClientFault.Status code) → ⊥ }
         ensures dial_fault { result ≡ Err ClientFault.DialFault → Rose (N.faults dial.old) (N.faults dial.new) }
         ensures never_falls { N.faults dial.old ≤ N.faults dial.new }
+        ensures kind { N.delivers dial.new ≡ N.delivers dial.old }
     {
         let found = discover(alloc, dial, host);
         client_in(found, secret)
@@ -97,9 +99,11 @@ impl Client {
         path: &Path,
         body: &Bytes,
     ) -> Result<Message, PumpFault>
+        requires delivers { N.delivers dial.old ≡ true }
         ensures exact { AddsSome (N.exchanges dial.old) (N.exchanges dial.new) (λ added. client.Asks self.now method.now path.now body.now added result) }
         ensures dial_fault { result ≡ Err PumpFault.DialFault → Rose (N.faults dial.old) (N.faults dial.new) }
         ensures never_falls { N.faults dial.old ≤ N.faults dial.new }
+        ensures kind { N.delivers dial.new ≡ N.delivers dial.old }
     {
         let request = self.request(alloc, method, path, body)?;
         send(alloc, dial, &self.site.host, &request)
@@ -113,9 +117,11 @@ impl Client {
         method: &str,
         path: &Path,
     ) -> Result<Message, PumpFault>
+        requires delivers { N.delivers dial.old ≡ true }
         ensures exact { AddsSome (N.exchanges dial.old) (N.exchanges dial.new) (λ added. client.Asks self.now method.now path.now [] added result) }
         ensures dial_fault { result ≡ Err PumpFault.DialFault → Rose (N.faults dial.old) (N.faults dial.new) }
         ensures never_falls { N.faults dial.old ≤ N.faults dial.new }
+        ensures kind { N.delivers dial.new ≡ N.delivers dial.old }
     {
         let nothing = Bytes::new(alloc);
         self.ask(alloc, dial, method, path, &nothing)
@@ -128,11 +134,13 @@ impl Client {
         dial: &mut N,
         path: &Path,
     ) -> Result<Bytes, ClientFault>
+        requires delivers { N.delivers dial.old ≡ true }
         // The one exchange that is added, and the answer by the bytes that came back in it. Nothing is searched.
         ensures exact { AddsSome (N.exchanges dial.old) (N.exchanges dial.new) (λ added. client.Gets self.now path.now added result) }
         ensures no_search { result ≡ Err ClientFault.NoDiscovery → ⊥ }
         ensures dial_fault { result ≡ Err ClientFault.DialFault → Rose (N.faults dial.old) (N.faults dial.new) }
         ensures never_falls { N.faults dial.old ≤ N.faults dial.new }
+        ensures kind { N.delivers dial.new ≡ N.delivers dial.old }
     {
         let sent = self.ask_bodyless(alloc, dial, "GET", path);
         body_in(200, sent)
@@ -146,10 +154,12 @@ impl Client {
         dial: &mut N,
         path: &Path,
     ) -> Result<Bytes, ClientFault>
+        requires delivers { N.delivers dial.old ≡ true }
         ensures exact { AddsSome (N.exchanges dial.old) (N.exchanges dial.new) (λ added. client.Lists self.now path.now added result) }
         ensures no_search { result ≡ Err ClientFault.NoDiscovery → ⊥ }
         ensures dial_fault { result ≡ Err ClientFault.DialFault → Rose (N.faults dial.old) (N.faults dial.new) }
         ensures never_falls { N.faults dial.old ≤ N.faults dial.new }
+        ensures kind { N.delivers dial.new ≡ N.delivers dial.old }
     {
         let sent = self.ask_bodyless(alloc, dial, "PROPFIND", path);
         body_in(207, sent)
@@ -163,10 +173,12 @@ impl Client {
         path: &Path,
         body: &Bytes,
     ) -> Result<u16, ClientFault>
+        requires delivers { N.delivers dial.old ≡ true }
         ensures exact { AddsSome (N.exchanges dial.old) (N.exchanges dial.new) (λ added. client.Puts self.now path.now body.now added result) }
         ensures no_search { result ≡ Err ClientFault.NoDiscovery → ⊥ }
         ensures dial_fault { result ≡ Err ClientFault.DialFault → Rose (N.faults dial.old) (N.faults dial.new) }
         ensures never_falls { N.faults dial.old ≤ N.faults dial.new }
+        ensures kind { N.delivers dial.new ≡ N.delivers dial.old }
     {
         let sent = self.ask(alloc, dial, "PUT", path, body);
         success_in(sent)
@@ -179,10 +191,12 @@ impl Client {
         dial: &mut N,
         path: &Path,
     ) -> Result<u16, ClientFault>
+        requires delivers { N.delivers dial.old ≡ true }
         ensures exact { AddsSome (N.exchanges dial.old) (N.exchanges dial.new) (λ added. client.Deletes self.now path.now added result) }
         ensures no_search { result ≡ Err ClientFault.NoDiscovery → ⊥ }
         ensures dial_fault { result ≡ Err ClientFault.DialFault → Rose (N.faults dial.old) (N.faults dial.new) }
         ensures never_falls { N.faults dial.old ≤ N.faults dial.new }
+        ensures kind { N.delivers dial.new ≡ N.delivers dial.old }
     {
         let sent = self.ask_bodyless(alloc, dial, "DELETE", path);
         success_in(sent)
@@ -195,10 +209,12 @@ impl Client {
         dial: &mut N,
         path: &Path,
     ) -> Result<u16, ClientFault>
+        requires delivers { N.delivers dial.old ≡ true }
         ensures exact { AddsSome (N.exchanges dial.old) (N.exchanges dial.new) (λ added. client.MakesCollection self.now path.now added result) }
         ensures no_search { result ≡ Err ClientFault.NoDiscovery → ⊥ }
         ensures dial_fault { result ≡ Err ClientFault.DialFault → Rose (N.faults dial.old) (N.faults dial.new) }
         ensures never_falls { N.faults dial.old ≤ N.faults dial.new }
+        ensures kind { N.delivers dial.new ≡ N.delivers dial.old }
     {
         let sent = self.ask_bodyless(alloc, dial, "MKCOL", path);
         success_in(sent)

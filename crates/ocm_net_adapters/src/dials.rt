@@ -1,4 +1,4 @@
-ghost use Rattle.std.specs.Prelude.{◌≡◌, ◌≤◌, Bool, None, true, false, Err, IfOk, length};
+ghost use Rattle.std.specs.Prelude.{◌≡◌, ◌≤◌, None, true, false, is_some, Err, IfOk, length};
 ghost use Rattle.ocm_base.specs.Outside.{Rose};
 
 use ocm_base::Bytes;
@@ -17,7 +17,6 @@ use std::time;
 /// has one over exchanges that go on beside it; one that serves has one that makes none. It tells nothing of them.
 pub struct TcpDial<'a, R: Wait + time::Clock> {
     exchanges: Option<Arc<Exchanges<'a, R>, Global>>,
-    delivers: bool,
     faults: u64,
 }
 
@@ -25,7 +24,6 @@ impl<R: Wait + time::Clock> Drop for TcpDial<'_, R> {
     fn drop(self) {
         let TcpDial {
             exchanges: _,
-            delivers: _,
             faults: _,
         } = self;
     }
@@ -34,22 +32,20 @@ impl<R: Wait + time::Clock> Drop for TcpDial<'_, R> {
 impl<'a, R: Wait + time::Clock> TcpDial<'a, R> {
     /// A dial over these exchanges, with no fault so far.
     pub fn new(exchanges: Arc<Exchanges<'a, R>, Global>) -> TcpDial<'a, R>
-        ensures { result.delivers ≡ true }
+        ensures { is_some result.exchanges ≡ true }
     {
         TcpDial {
             exchanges: Some(exchanges),
-            delivers: true,
             faults: 0,
         }
     }
 
     /// A dial that makes no exchange, with no fault so far.
     pub fn idle() -> TcpDial<'a, R>
-        ensures { result.delivers ≡ false }
+        ensures { is_some result.exchanges ≡ false }
     {
         TcpDial {
             exchanges: None,
-            delivers: false,
             faults: 0,
         }
     }
@@ -76,16 +72,18 @@ impl<'a, R: Wait + time::Clock + Threads + Net + Eprint> Dial for TcpDial<'a, R>
 
     ghost faults = { λ d. d.faults };
 
-    ghost delivers = { λ d. d.delivers };
+    ghost delivers = { λ d. is_some d.exchanges };
+
+    ghost told = { λ _. None };
 
     fn delivers(&self) -> bool {
-        self.delivers
+        self.exchanges.is_some()
     }
 
     fn exchange(&mut self, _alloc: Global, host: &Host, request: &Bytes) -> Result<Bytes, DialEnd> {
         let came = match &self.exchanges {
             Some(exchanges) => exchanges.exchange(host.as_str(), request),
-            None => Err(ExchangeFault::Failed),
+            None => unreachable!(),
         };
         ended(&mut self.faults, came)
     }
@@ -124,6 +122,8 @@ impl<'a, R: Wait + time::Clock + Net> Dial for ClientDial<'a, R> {
 
     ghost delivers = { λ _. true };
 
+    ghost told = { λ _. None };
+
     fn delivers(&self) -> bool {
         true
     }
@@ -132,4 +132,6 @@ impl<'a, R: Wait + time::Clock + Net> Dial for ClientDial<'a, R> {
         let came = exchange_alone(self.rt, alloc, host.as_str(), request);
         ended(&mut self.faults, came)
     }
+
+    fn came(&mut self, _host: &Host, _settles: bool) {}
 }

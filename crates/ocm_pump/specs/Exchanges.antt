@@ -1,5 +1,6 @@
--- The exchanges of a dial: histories, the newest first.
-use Rattle.std.specs.Prelude.{◌≡◌, ℕ, List, [], ◌∷◌, ◌++◌, Option, Some, None, option_map, Result, Ok, Err}
+-- The exchanges of a dial, and what it is told of deliveries: histories, the newest first.
+use Rattle.std.specs.Prelude.{◌≡◌, ℕ, Bool, List, [], ◌∷◌, ◌++◌, Option, Some, None, option_map, IfSome, Result, Ok, Err}
+use Rattle.ocm_pump.specs.declared.exchanges.Came.{Came}
 use Rattle.ocm_pump.specs.declared.exchanges.Exchange.{Exchange}
 use Rattle.ocm_pump.specs.declared.exchanges.DialEnd.{DialEnd}
 use Rattle.ocm_pump.specs.declared.exchanges.DialEnd.TheVariants.{Failed, NoMemory}
@@ -22,6 +23,11 @@ abbrev pub AddsOne : Option (List Exchange) → Option (List Exchange) → List 
 AddsOne old new host request (Ok reply) = Adds old new (exchanged host request (Some reply))
 AddsOne old new host request (Err Failed) = Adds old new (exchanged host request None)
 AddsOne old new host request (Err NoMemory) = (added : List Exchange) × Adds old new added × IsOneAtMost host request added
+
+-- one more was told of a delivery to a host, where it is still known what was told
+abbrev pub Hears : Option (List Came) → Option (List Came) → List ℕ → Bool → Type 0
+Hears old new host settles =
+    IfSome new (λ now. option_map (λ before. record { host = host; settles = settles } ∷ before) old ≡ Some now)
 
 -- what a call of several exchanges adds is such a history
 abbrev pub AddsSome : Option (List Exchange) → Option (List Exchange) → (List Exchange → Type 0) → Type 0

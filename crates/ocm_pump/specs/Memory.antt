@@ -2,14 +2,17 @@
 use Rattle.std.specs.Prelude.{ℕ, List, ◌++◌, take, drop, slice_get, Option, Some, None}
 use Rattle.ocm_base.specs.Outside.{raised}
 use Rattle.ocm_limits.specs.Limits.{most_exchange_bytes}
+use Rattle.ocm_pump.specs.declared.exchanges.Came.{Came}
 use Rattle.ocm_pump.specs.declared.exchanges.Exchange.{Exchange}
 use Rattle.ocm_pump.specs.Exchanges.{exchanged}
 
--- the replies that it has left, where None is a failure; its exchanges, the newest first; and how many of them failed
+-- the replies that it has left, where None is a failure; its exchanges, the newest first; how many of them failed; and what it was told of
+-- deliveries, the newest first, unless there was no memory for it
 pub record DialState : Type 0 where
   pub replies : List (Option (List ℕ))
   pub exchanges : List Exchange
   pub faults : ℕ
+  pub told : Option (List Came)
 
 -- the bytes that come back of a reply: 33,619,968 at most
 abbrev pub front : Option (List ℕ) → Option (List ℕ)
@@ -37,4 +40,5 @@ after_exchange dial host request =
       replies = drop 1 dial.replies;
       exchanges = exchanged host request reply ++ dial.exchanges;
       faults = faults_after reply dial.faults;
+      told = dial.told;
     }

@@ -1,7 +1,7 @@
-ghost use Rattle.std.specs.Prelude.{◌≡◌, ◌≤◌, Ok, Err, IfOk};
+ghost use Rattle.std.specs.Prelude.{◌≡◌, ◌≤◌, true, Ok, Err, IfOk};
 ghost use Rattle.ocm_base.specs.Outside.{Rose};
 ghost use Rattle.ocm_records.specs.Rows.{record_of};
-ghost use Rattle.ocm_pump.specs.Exchanges.{AddsSome};
+ghost use Rattle.ocm_pump.specs.Exchanges.{AddsSome, Hears};
 ghost use Rattle.ocm_pump.specs.Replies.{Gives};
 ghost use Rattle.ocm_pump.specs.Delivery as delivery;
 ghost use Rattle.ocm_pump.specs.Delivery.{Posts, Delivers};
@@ -135,10 +135,12 @@ fn post<N: Dial>(
     site: &Site,
     letter: &Letter,
 ) -> Result<Answered, PumpFault>
+    requires delivers { N.delivers dial.old ≡ true }
     ensures exact { AddsSome (N.exchanges dial.old) (N.exchanges dial.new) (λ added. Posts site.now letter.now added result) }
     ensures dial_fault { result ≡ Err PumpFault.DialFault → Rose (N.faults dial.old) (N.faults dial.new) }
     ensures never_falls { N.faults dial.old ≤ N.faults dial.new }
     ensures kind { N.delivers dial.new ≡ N.delivers dial.old }
+    ensures untold { N.told dial.new ≡ N.told dial.old }
 {
     let request = post_request(alloc, site, letter)?;
     let sent = send(alloc, dial, &site.host, &request);
@@ -151,10 +153,12 @@ fn find_and_post<N: Dial>(
     dial: &mut N,
     message: &Numbered,
 ) -> Result<Answered, PumpFault>
+    requires delivers { N.delivers dial.old ≡ true }
     ensures exact { AddsSome (N.exchanges dial.old) (N.exchanges dial.new) (λ added. Delivers message.now added result) }
     ensures dial_fault { result ≡ Err PumpFault.DialFault → Rose (N.faults dial.old) (N.faults dial.new) }
     ensures never_falls { N.faults dial.old ≤ N.faults dial.new }
     ensures kind { N.delivers dial.new ≡ N.delivers dial.old }
+    ensures untold { N.told dial.new ≡ N.told dial.old }
 {
     let site = discover(alloc, dial, &message.to)?;
     post(alloc, dial, &site, &message.letter)
@@ -170,6 +174,15 @@ fn is_settled(letter: &Letter, delivered: &Result<Answered, PumpFault>) -> bool
     }
 }
 
+/// Tells a dial whether what came of a delivery settles its message.
+fn tell<N: Dial>(dial: &mut N, message: &Numbered, delivered: &Result<Answered, PumpFault>)
+    ensures same { (N.exchanges dial.new ≡ N.exchanges dial.old) × (N.faults dial.new ≡ N.faults dial.old) × (N.delivers dial.new ≡ N.delivers dial.old) }
+    ensures told { Hears (N.told dial.old) (N.told dial.new) message.now.to (delivery.is_settled message.now.letter delivered.now) }
+{
+    let settled = is_settled(&message.letter, delivered);
+    dial.came(&message.to, settled);
+}
+
 /// Delivers a letter to the server that it is for: finds that server's document, posts the letter's record to the end
 /// point that it names, without credentials, and answers what came back (Open Cloud Mesh API 1.1). The dial is told
 /// whether that settles the letter.
@@ -178,14 +191,16 @@ pub fn deliver<N: Dial>(
     dial: &mut N,
     message: &Numbered,
 ) -> Result<Answered, PumpFault>
+    requires delivers { N.delivers dial.old ≡ true }
     // The exchanges that are added, and the answer by the bytes that came back in them.
     ensures exact { AddsSome (N.exchanges dial.old) (N.exchanges dial.new) (λ added. Delivers message.now added result) }
     ensures dial_fault { result ≡ Err PumpFault.DialFault → Rose (N.faults dial.old) (N.faults dial.new) }
     ensures never_falls { N.faults dial.old ≤ N.faults dial.new }
     ensures kind { N.delivers dial.new ≡ N.delivers dial.old }
+    // The dial is told once whether the answer settles the message of that host.
+    ensures told { Hears (N.told dial.old) (N.told dial.new) message.now.to (delivery.is_settled message.now.letter result) }
 {
     let delivered = find_and_post(alloc, dial, message);
-    let settled = is_settled(&message.letter, &delivered);
-    dial.came(&message.to, settled);
+    tell(dial, message, &delivered);
     delivered
 }

@@ -18,6 +18,21 @@ impl Drop for Exchange {
     }
 }
 
+/// What a dial was told of a delivery: the host of its message, and whether what came back settles it.
+pub struct Came {
+    pub host: Host,
+    pub settles: bool,
+}
+
+impl Drop for Came {
+    fn drop(self) {
+        let Came {
+            host: _,
+            settles: _,
+        } = self;
+    }
+}
+
 /// Why no bytes came back.
 #[derive(Clone, Copy, Debug, PartialEq, Eq)]
 pub enum DialEnd {

@@ -1,4 +1,4 @@
-ghost use Rattle.std.specs.Prelude.{◌≡◌, ◌≤◌, Err};
+ghost use Rattle.std.specs.Prelude.{◌≡◌, ◌≤◌, true, Err};
 ghost use Rattle.ocm_base.specs.Outside.{Rose};
 ghost use Rattle.ocm_pump.specs.Exchanges.{AddsSome};
 ghost use Rattle.ocm_pump.specs.Replies as replies;
@@ -52,10 +52,12 @@ pub fn send<N: Dial>(
     host: &Host,
     request: &Bytes,
 ) -> Result<Message, PumpFault>
+    requires delivers { N.delivers dial.old ≡ true }
     ensures exact { AddsSome (N.exchanges dial.old) (N.exchanges dial.new) (λ added. Sends host.now request.now added result) }
     ensures dial_fault { result ≡ Err PumpFault.DialFault → Rose (N.faults dial.old) (N.faults dial.new) }
     ensures never_falls { N.faults dial.old ≤ N.faults dial.new }
     ensures kind { N.delivers dial.new ≡ N.delivers dial.old }
+    ensures untold { N.told dial.new ≡ N.told dial.old }
 {
     match dial.exchange(alloc, host, request) {
         Ok(bytes) => read_reply(alloc, bytes),

@@ -1,4 +1,4 @@
-ghost use Rattle.std.specs.Prelude.{◌≡◌, ◌≤◌, Some, Err, IfOk};
+ghost use Rattle.std.specs.Prelude.{◌≡◌, ◌≤◌, true, Some, Err, IfOk};
 ghost use Rattle.ocm_base.specs.Outside.{Rose};
 ghost use Rattle.ocm_pump.specs.Exchanges.{AddsSome};
 ghost use Rattle.ocm_pump.specs.Replies.{Gives};
@@ -59,10 +59,12 @@ fn ask<N: Dial>(
     host: &Host,
     place: &str,
 ) -> Result<Option<Site>, PumpFault>
+    requires delivers { N.delivers dial.old ≡ true }
     ensures exact { AddsSome (N.exchanges dial.old) (N.exchanges dial.new) (λ added. Asks host.now place.now added result) }
     ensures dial_fault { result ≡ Err PumpFault.DialFault → Rose (N.faults dial.old) (N.faults dial.new) }
     ensures never_falls { N.faults dial.old ≤ N.faults dial.new }
     ensures kind { N.delivers dial.new ≡ N.delivers dial.old }
+    ensures untold { N.told dial.new ≡ N.told dial.old }
 {
     let request = document_request(alloc, host, place)?;
     let sent = send(alloc, dial, host, &request);
@@ -82,10 +84,12 @@ fn found_at_last(found: Result<Option<Site>, PumpFault>) -> Result<Site, PumpFau
 
 /// Asks a host for its document at the second place.
 fn ask_last<N: Dial>(alloc: Global, dial: &mut N, host: &Host) -> Result<Site, PumpFault>
+    requires delivers { N.delivers dial.old ≡ true }
     ensures exact { AddsSome (N.exchanges dial.old) (N.exchanges dial.new) (λ added. AsksLast host.now added result) }
     ensures dial_fault { result ≡ Err PumpFault.DialFault → Rose (N.faults dial.old) (N.faults dial.new) }
     ensures never_falls { N.faults dial.old ≤ N.faults dial.new }
     ensures kind { N.delivers dial.new ≡ N.delivers dial.old }
+    ensures untold { N.told dial.new ≡ N.told dial.old }
 {
     let found = ask(alloc, dial, host, "/ocm-provider/");
     found_at_last(found)
@@ -94,10 +98,12 @@ fn ask_last<N: Dial>(alloc: Global, dial: &mut N, host: &Host) -> Result<Site, P
 /// Asks a host for its discovery document (Open Cloud Mesh API 1.1): at `/.well-known/ocm`, and where that gives no
 /// usable one at `/ocm-provider/`. BadReply is no answer of it.
 pub fn discover<N: Dial>(alloc: Global, dial: &mut N, host: &Host) -> Result<Site, PumpFault>
+    requires delivers { N.delivers dial.old ≡ true }
     ensures exact { AddsSome (N.exchanges dial.old) (N.exchanges dial.new) (λ added. Discovers host.now added result) }
     ensures dial_fault { result ≡ Err PumpFault.DialFault → Rose (N.faults dial.old) (N.faults dial.new) }
     ensures never_falls { N.faults dial.old ≤ N.faults dial.new }
     ensures kind { N.delivers dial.new ≡ N.delivers dial.old }
+    ensures untold { N.told dial.new ≡ N.told dial.old }
 {
     let first = ask(alloc, dial, host, "/.well-known/ocm")?;
     match first {

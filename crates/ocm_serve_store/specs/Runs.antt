@@ -1,5 +1,5 @@
 -- A server, from its disk as it was handed in to its disk as it comes back.
-use Rattle.std.specs.Prelude.{◌≡◌, ◌⊎◌, ℕ, List, [], ◌++◌, Result, Ok, Err}
+use Rattle.std.specs.Prelude.{◌≡◌, ◌⊎◌, ℕ, ◌<◌, List, [], ◌++◌, length, slice_index_or, Result, Ok, Err}
 use Rattle.ocm_base.specs.Outside.{raised}
 use Rattle.ocm_dav.specs.declared.configs.Config.{Config}
 use Rattle.ocm_disk.specs.Disk.{LeavesOnly}
@@ -12,6 +12,8 @@ use Rattle.ocm_serve_store.specs.declared.followed.Followed.{Followed}
 use Rattle.ocm_serve_store.specs.declared.followed.Origin.{Origin}
 use Rattle.ocm_server.specs.Objects.{Begins, Service}
 use Rattle.ocm_server.specs.declared.served.Served.{Served}
+use Rattle.ocm_server.specs.declared.workers.Rounds.{Rounds}
+use Rattle.ocm_server.specs.declared.workers.Rounds.TheVariants as rounds
 use Rattle.ocm_server.specs.declared.served.Served.TheVariants.{Ended, DoorFault, DiskFault, NotJournal, OtherHost, NoMemory}
 use Rattle.ocm_store.specs.Acts.{StandsLegally}
 use Rattle.ocm_store.specs.Courses.{Course, LeavesAlong}
@@ -115,3 +117,20 @@ pub record Ran {D : Type 0} (disk : Ghosts D) (plan : Plan) (area limit : ℕ) (
   pub any_moment : disk.tells → LeavesOnly disk.moment disk.left_since before after (LeavesInRun disk plan.host area before (terms_of store) served.first.base served.service.history)
   -- what was answered is not lost
   pub kept : (done later : List Entry) → served.service.history ≡ later ++ done → KeepsDone disk store served.first.base done later served.left.store
+
+-- What came of running a server by a plan, from its disk and its workers as they were: the disk and the workers that were left, and what is
+-- known of them. `new` is the size of the areas of a new journal.
+pub record RunsTo {D W : Type 0} (disk : Ghosts D) (plan : Plan) (new limit : ℕ) (IsEach : List W → List W → Config → Gate → Known (Origin D disk) → ℕ → List (List Call) → Type 0) (end : W → Rounds) (before : D) (workers : List W) (came : Served) : Type 0 where
+  pub after : D
+  pub left : List W
+  pub ran : (calls own : ℕ) → HasServed came calls own → Ran disk plan new limit before after calls own (IsEach workers left)
+  -- it ended where every door came to its end, and else the door of a worker failed
+  pub ended : (calls own : ℕ) → came ≡ Ended calls own → (i : ℕ) (d : W) → i < length left → end (slice_index_or left i d) ≡ rounds.Ended
+  pub fault : (calls own : ℕ) → came ≡ DoorFault calls own → (i : ℕ) × (i < length left) × ((d : W) → end (slice_index_or left i d) ≡ rounds.DoorFault)
+  -- what is told of the disk is what its bytes say, or the count of its faults, which rose; then no door was asked
+  pub said : disk.tells → IsSaid (loading plan.host new (disk.seen before)) came
+  pub counted : IsCounted (disk.count before) (disk.count after) came
+  pub unfailing : ((n : ℕ) → disk.passes before n) → IsDiskFault came → ⊥
+  pub unasked : IsUnserved came → left ≡ workers
+  pub unserved : disk.tells → IsUnserved came → LeavesOnly disk.moment disk.left_since before after (λ c. disk.may_leave before c ⊎ StaysAsItOpens plan.host new (disk.seen before) c)
+  pub kept : disk.tells → IsUnserved came → StaysAsItOpens plan.host new (disk.seen before) (disk.seen after)

@@ -31,7 +31,7 @@ impl<D: Disk + Drop> Drop for Origin<D> {
 
 impl<D: Disk> Followed<D> {
     /// A store that is followed from now on.
-    pub(crate) fn new(store: Store<D>) -> Followed<D>
+    pub fn new(store: Store<D>) -> Followed<D>
         ensures store { result.store ≡ store }
         ensures born { result.born.value ≡ store }
     {
@@ -39,8 +39,15 @@ impl<D: Disk> Followed<D> {
         Followed { store, born }
     }
 
+    /// The store.
+    pub fn store(&self) -> &Store<D>
+        ensures { result.now ≡ self.now.store }
+    {
+        &self.store
+    }
+
     /// The store alone.
-    pub(crate) fn into_store(self) -> Store<D>
+    pub fn into_store(self) -> Store<D>
         ensures { result ≡ self.store }
     {
         let Followed { store, born: _ } = self;

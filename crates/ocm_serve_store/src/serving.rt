@@ -94,7 +94,7 @@ where
 }
 
 /// Whose server it is, for its pages and for its store.
-fn names_of(plan: &Plan) -> Result<(Config, Host), NoMemory>
+pub fn names_of(plan: &Plan) -> Result<(Config, Host), NoMemory>
     ensures { IfOk result (λ both. (both.0 ≡ config_of plan.now) × (both.1 ≡ plan.now.host)) }
 {
     let host = plan.host.copy()?;
@@ -104,7 +104,7 @@ fn names_of(plan: &Plan) -> Result<(Config, Host), NoMemory>
 }
 
 /// Why a disk was not loaded, as it is told.
-fn refused(fault: LoadFault) -> Served
+pub fn refused(fault: LoadFault) -> Served
     ensures { result ≡ as_served fault }
 {
     match fault {
@@ -167,7 +167,7 @@ where
 }
 
 /// How workers ended that made so many calls: by a fault of a door where one of them had it.
-fn ended<T: Object, L: Door, N: Dial, K: Clock>(
+pub fn ended<T: Object, L: Door, N: Dial, K: Clock>(
     workers: &[Worker<T, L, N, K>],
     calls: u64,
     own: u64,

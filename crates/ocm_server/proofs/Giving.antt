@@ -1,6 +1,6 @@
 -- A door in memory that gives its next connection.
 use Rattle.std.proofs.Common.{◌≡◌, ℕ, ◌+◌, ◌-◌, ◌<◌, ◌≤◌, List, [], ◌∷◌, ◌++◌, length, get_or, take, drop, reverse, add-one, sym, ap, ◌∙◌, arith}
-use Rattle.std.proofs.lemmas.List.{reverse-append, length-drop}
+use Rattle.std.proofs.lemmas.List.{reverse-append, reverse-reverse, take-append-drop, length-drop}
 use Rattle.std.proofs.Math.Seq.{drop-cons, take-suc}
 
 module _ {C : Type 0} where
@@ -13,6 +13,10 @@ module _ {C : Type 0} where
     pub rest_is : drop (n + 1) all ≡ rest
     pub given_is : reverse (take (n + 1) all) ≡ conn ∷ reverse (take n all)
     pub within : n + 1 ≤ length all
+
+  -- what was given, in order, and what is left are all
+  pub all_listed : (all : List C) (n : ℕ) → reverse (reverse (take n all)) ++ drop n all ≡ all
+  all_listed all n = ap (λ (xs : List C). xs ++ drop n all) (reverse-reverse (take n all)) ∙ take-append-drop n all
 
   same_first : (x y : C) (xs ys : List C) → x ∷ xs ≡ y ∷ ys → x ≡ y
   same_first x y xs ys e = cc

@@ -68,7 +68,7 @@ returned v = record { conn = v.back; ended = v.ended }
 
 -- a door after these visits
 abbrev pub visited : {C : Type 0} → List (Visit C) → Doorway C → Doorway C
-visited visits d = record { given = map (λ v. v.given) visits ++ d.given; back = map returned visits ++ d.back; is_over = d.is_over }
+visited visits d = record { given = map (λ v. v.given) visits ++ d.given; back = map returned visits ++ d.back; overs = d.overs }
 
 -- a connection was served and came back, and a round was made where the dial makes exchanges
 pub record Comes {C Terms : Type 0} (sides : C → Sides) (config : Config) (limit : ℕ) (delivers : Bool) (conn : C) (told told' : Option (Doorway C)) (old new : Desk Terms) : Type 0 where

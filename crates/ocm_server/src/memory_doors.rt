@@ -1,6 +1,6 @@
 //! Doors in memory.
 
-ghost use Rattle.std.specs.Prelude.{◌≡◌, ◌≤◌, ◌+◌, [], false, Some, None, IfOk, IfSome, OnErr, IsOk, drop, slice_get, option_map, reverse};
+ghost use Rattle.std.specs.Prelude.{◌≡◌, ◌≤◌, ◌+◌, [], ◌++◌, Some, None, IfOk, IfSome, OnErr, IsOk, drop, slice_get, option_map, reverse};
 ghost use Rattle.ocm_base.specs.Outside.{Rose};
 ghost use Rattle.ocm_server.specs.Doors.{given, came, over, IsOut};
 
@@ -19,7 +19,7 @@ pub struct MemDoor<C> {
     given: usize,
     rest: Vec<C>,
     back: Vec<Back<C>>,
-    is_over: bool,
+    overs: u64,
 }
 
 impl<C: Drop> Drop for MemDoor<C> {
@@ -29,7 +29,7 @@ impl<C: Drop> Drop for MemDoor<C> {
             given: _,
             rest: _,
             back: _,
-            is_over: _,
+            overs: _,
         } = self;
     }
 }
@@ -41,8 +41,9 @@ impl<C> Model for MemDoor<C> {
     ghost Value = { DoorState C };
 
     ghost view = { λ d. record {
-      door = record { given = reverse (take d.given d.all.value); back = reverse d.back.items; is_over = d.is_over };
+      door = record { given = reverse (take d.given d.all.value); back = reverse d.back.items; overs = d.overs };
       rest = drop d.given d.all.value;
+      all = d.all.value;
     } };
 
     ghost invariant = { λ d. (reverse d.rest.items ≡ drop d.given d.all.value) × (d.given ≤ length d.all.value)
@@ -52,7 +53,7 @@ impl<C> Model for MemDoor<C> {
 impl<C: Drop> MemDoor<C> {
     /// A door that gives these connections in order, and is then over.
     pub fn new(alloc: Global, conns: List<C>) -> Result<MemDoor<C>, NoMemory>
-        ensures { IfOk result (λ d. d ≡ record { door = record { given = []; back = []; is_over = false }; rest = conns }) }
+        ensures { IfOk result (λ d. d ≡ record { door = record { given = []; back = []; overs = 0 }; rest = conns; all = conns }) }
     {
         let back = Vec::with_capacity(alloc, conns.len())?;
         let all = Snapshot::of(&conns);
@@ -63,7 +64,7 @@ impl<C: Drop> MemDoor<C> {
             given: 0,
             rest,
             back,
-            is_over: false,
+            overs: 0,
         })
     }
 
@@ -83,6 +84,7 @@ impl<C: Conn> Door for MemDoor<C> {
     ghost faults = { λ _. 0 };
 
     /// Gives the next of its connections, and None behind the last.
+    #[tactic(auto, using(crate::proofs::Giving::all_listed))]
     fn next(&mut self) -> Result<Option<C>, Failed>
         ensures given { IfOk result (λ o. IfSome o (λ conn. self.new.door ≡ given conn self.old.door)) }
         ensures out { IfOk result (λ o. IfSome o (λ _. IsOut (Some self.new.door))) }
@@ -90,6 +92,9 @@ impl<C: Conn> Door for MemDoor<C> {
         ensures never_fails { IsOk result }
         ensures gives { IfOk result (λ o. o ≡ slice_get self.old.rest 0) }
         ensures rest { self.new.rest ≡ drop 1 self.old.rest }
+        // What it gave and what it has still to give is the list that it was made with.
+        ensures list { reverse self.new.door.given ++ self.new.rest ≡ self.new.all }
+        ensures all { self.new.all ≡ self.old.all }
     {
         match self.rest.pop() {
             Some(conn) => {
@@ -97,7 +102,7 @@ impl<C: Conn> Door for MemDoor<C> {
                 Ok(Some(conn))
             }
             None => {
-                self.is_over = true;
+                self.overs = self.overs.saturating_add(1);
                 Ok(None)
             }
         }
@@ -107,6 +112,7 @@ impl<C: Conn> Door for MemDoor<C> {
         requires { IsOut (Some self.old.door) }
         ensures back { self.new.door ≡ came conn ended self.old.door }
         ensures rest { self.new.rest ≡ self.old.rest }
+        ensures all { self.new.all ≡ self.old.all }
     {
         match self.back.push(Back { conn, ended }) {
             Ok(()) => {}

@@ -1,6 +1,6 @@
 //! A round of delivery.
 
-ghost use Rattle.std.specs.Prelude.{◌≡◌, ◌≢◌, ◌+◌, ◌<◌, ◌≤◌, ℕ, [], ◌∷◌, ◌++◌, min, IsTrue};
+ghost use Rattle.std.specs.Prelude.{◌≡◌, ◌≢◌, ◌+◌, ◌<◌, ◌≤◌, ℕ, [], ◌∷◌, ◌++◌, min, true, IsTrue};
 ghost use Rattle.ocm_turn.specs.Passes.{BelongsTo};
 ghost use Rattle.ocm_server_rounds.specs.Rounds as rounds;
 ghost use Rattle.ocm_server_rounds.specs.Rounds.{Delivered, Answers, Rounded, counted, hold, one_if};
@@ -74,6 +74,7 @@ fn deliver_all<T: Object, N: Dial, R: Wait>(
 ) -> Passed
     requires own { BelongsTo node.now pass.old }
     requires below { pass.old.drawn < node.now.limit }
+    requires delivers { N.delivers dial.old ≡ true }
     ensures delivered { (settled : ℕ) × (result.answered ≡ counted settled)
         × Delivered messages.now (hold pass.old (N.exchanges dial.old)) (hold pass.new (N.exchanges dial.new)) settled result.end }
     ensures spent { result.end ≡ RoundEnd.Spent → node.now.limit ≤ pass.new.drawn }
@@ -110,6 +111,7 @@ fn answer_due<T: Object, N: Dial, R: Wait>(
 ) -> Pumped
     requires own { BelongsTo node.now pass.old }
     requires below { pass.old.drawn < node.now.limit }
+    requires delivers { N.delivers dial.old ≡ true }
     ensures answers { Answers reply.now (hold pass.old (N.exchanges dial.old)) (hold pass.new (N.exchanges dial.new)) result }
     ensures spent { result.end ≡ RoundEnd.Spent → node.now.limit ≤ pass.new.drawn }
     ensures below { result.end ≢ RoundEnd.Spent → pass.new.drawn < node.now.limit }
@@ -144,6 +146,7 @@ pub fn pump_round<T: Object, N: Dial, R: Wait>(
     dial: &mut N,
 ) -> Pumped
     requires own { BelongsTo node.now pass.old }
+    requires delivers { N.delivers dial.old ≡ true }
     ensures round { Rounded (hold pass.old (N.exchanges dial.old)) (hold pass.new (N.exchanges dial.new)) result }
     ensures spent { result.end ≡ RoundEnd.Spent → node.now.limit ≤ pass.new.drawn }
     ensures below { result.end ≢ RoundEnd.Spent → pass.new.drawn < node.now.limit }

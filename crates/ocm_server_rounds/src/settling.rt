@@ -1,6 +1,6 @@
 //! One message delivered and settled.
 
-ghost use Rattle.std.specs.Prelude.{◌≡◌, ◌≢◌, ◌<◌, ◌≤◌, [], ◌∷◌, IfOk, OnOk, OnErr, IsTrue};
+ghost use Rattle.std.specs.Prelude.{◌≡◌, ◌≢◌, ◌<◌, ◌≤◌, [], ◌∷◌, true, IfOk, OnOk, OnErr, IsTrue};
 ghost use Rattle.ocm_entry.specs.Proper.{is_proper};
 ghost use Rattle.ocm_turn.specs.Calls.{entry};
 ghost use Rattle.ocm_turn.specs.Moves.{Moved};
@@ -113,6 +113,7 @@ pub(crate) fn try_message<T: Object, N: Dial, R: Wait>(
 ) -> Trial
     requires own { BelongsTo node.now pass.old }
     requires below { pass.old.drawn < node.now.limit }
+    requires delivers { N.delivers dial.old ≡ true }
     ensures tried { Tried message.now (hold pass.old (N.exchanges dial.old)) (hold pass.new (N.exchanges dial.new)) result.settled result.end }
     ensures spent { result.end ≡ RoundEnd.Spent → node.now.limit ≤ pass.new.drawn }
     ensures below { result.end ≢ RoundEnd.Spent → pass.new.drawn < node.now.limit }

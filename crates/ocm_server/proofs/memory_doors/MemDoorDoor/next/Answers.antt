@@ -15,8 +15,8 @@ returns-in-Some-clause-given g c =
     let s = c.self.inside in
     let first = first_of_rest s.rest.items c.pop.new.self.items s.all.value s.given c.in-Some.conn c.in-Some.ensures.items c.self.invariant.0 in
     let n = next s.all.value s.given c.in-Some.conn (reverse c.pop.new.self.items) first in
-    subst (λ (w : DoorState g.row.C.Denot). record { given = reverse (take (s.given + 1) s.all.value); back = reverse s.back.items; is_over = s.is_over } ≡ given c.in-Some.conn w.door) c.self.view_is
-    (λ i. record { given = n.given_is i; back = reverse s.back.items; is_over = s.is_over })
+    subst (λ (w : DoorState g.row.C.Denot). record { given = reverse (take (s.given + 1) s.all.value); back = reverse s.back.items; overs = s.overs } ≡ given c.in-Some.conn w.door) c.self.view_is
+    (λ i. record { given = n.given_is i; back = reverse s.back.items; overs = s.overs })
 
 pub returns-in-Some-clause-rest : goal.returns-in-Some-clause-rest
 returns-in-Some-clause-rest g c =
