@@ -5,7 +5,8 @@ use Rattle.ocm_http_heads.specs.declared.fields.Head.TheVariants.{Request, Reply
 use Rattle.ocm_http.specs.Written.{written_request}
 use Rattle.ocm_http.specs.declared.messages.Message.{Message}
 use Rattle.ocm_path.specs.Paths.{Segments, path_escaped}
-use Rattle.ocm_pump.specs.Delivery.{Discovers, is_success}
+use Rattle.ocm_pump.specs.Delivery.{Discovers}
+use Rattle.ocm_rules.specs.Settlements.{is_success}
 use Rattle.ocm_pump.specs.Replies.{Sends}
 use Rattle.ocm_pump.specs.declared.exchanges.Exchange.{Exchange}
 use Rattle.ocm_pump.specs.declared.faults.PumpFault.{PumpFault}

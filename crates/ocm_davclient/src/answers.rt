@@ -1,11 +1,11 @@
 ghost use Rattle.std.specs.Prelude.{◌≡◌};
-ghost use Rattle.ocm_pump.specs.Delivery as delivery;
 ghost use Rattle.ocm_davclient.specs.Client as client;
 
 use crate::faults::ClientFault;
 use ocm_base::Bytes;
 use ocm_http::{Head, Message};
 use ocm_pump::PumpFault;
+use ocm_rules::is_success;
 
 /// The status of a reply.
 fn status_of(head: &Head) -> Option<u16>
@@ -15,12 +15,6 @@ fn status_of(head: &Head) -> Option<u16>
         Head::Reply { status, fields: _ } => Some(*status),
         Head::Request { .. } => None,
     }
-}
-
-fn is_success(status: u16) -> bool
-    ensures { result ≡ delivery.is_success status }
-{
-    200 <= status && status <= 299
 }
 
 /// The body under the status that is wanted.

@@ -40,7 +40,8 @@ use Rattle.ocm_dav_pages.specs.Errors.{plain, noted, about, refused_field, refus
 use Rattle.ocm_dav_pages.specs.Fields.{content_type, challenge, allowed, status_fields}
 use Rattle.ocm_dav_pages.specs.Pages.{json, page, page_of, message_page}
 use Rattle.ocm_dav_pages.specs.declared.shapes.Allow.TheVariants.{Post}
-use Rattle.ocm_pump.specs.Delivery.{answer_of, asks_share, is_success, child, with_child}
+use Rattle.ocm_pump.specs.Delivery.{answer_of, asks_share, child, with_child}
+use Rattle.ocm_rules.specs.Settlements.{is_success}
 use Rattle.ocm_entry.specs.Deliveries.{delivered_id, delivered_status}
 use Rattle.ocm_law_posts.specs.Answers.{is_offer, Tells, AnswersAreTold}
 use Rattle.ocm_law_posts.proofs.Spelled.{text-short, text-read}

@@ -9,7 +9,8 @@ use Rattle.ocm_records.specs.Rows.{record_of}
 use Rattle.ocm_records.specs.declared.faults.RecordFault.{RecordFault}
 use Rattle.ocm_pump.specs.declared.faults.PumpFault.{PumpFault}
 use Rattle.ocm_pump.specs.declared.faults.PumpFault.TheVariants.{DialFault, NoDiscovery, BadReply, NoMemory}
-use Rattle.ocm_pump.specs.Delivery.{site_in, asks_share, is_success, child, with_child, answer_by, answer_in}
+use Rattle.ocm_pump.specs.Delivery.{site_in, asks_share, child, with_child, answer_by, answer_in}
+use Rattle.ocm_rules.specs.Settlements.{is_success}
 
 pub searched : (sent : Result Message PumpFault) → site_in sent ≡ Err DialFault → sent ≡ Err DialFault
 searched (Ok message) e = absurd cc

@@ -17,7 +17,7 @@ use Rattle.ocm_records.specs.Rows.{record_of, required}
 use Rattle.ocm_records.specs.Written.{offer_data, notice_data}
 use Rattle.ocm_records.specs.declared.faults.Field.TheVariants.{ProviderId}
 use Rattle.ocm_records.specs.declared.faults.RecordFault.{RecordFault}
-use Rattle.ocm_rules.specs.Settlements.{settles}
+use Rattle.ocm_rules.specs.Settlements.{settles, is_success}
 use Rattle.ocm_pump.specs.Replies.{Sends, Gives}
 use Rattle.ocm_pump.specs.Sites.{site_read}
 use Rattle.ocm_pump.specs.declared.exchanges.Exchange.{Exchange}
@@ -103,10 +103,6 @@ is_reshare_request (notices.Changed id secret serial perms) = false
 abbrev pub asks_share : Letter → Bool
 asks_share (letters.Offer offer) = false
 asks_share (letters.Notice notice) = is_reshare_request notice
-
--- 200 to 299
-abbrev pub is_success : ℕ → Bool
-is_success status = nat_le 200 status && nat_le status 299
 
 -- the mark of the share that was made, as an offer has it
 unfoldable pub child : Data → Result (List ℕ) RecordFault

@@ -15,7 +15,7 @@ use crate::sites::Site;
 use ocm_base::{Bytes, NoMemory};
 use ocm_http::{Head, Message, write_request};
 use ocm_records::{RecordFault, write_notice, write_offer};
-use ocm_rules::settles;
+use ocm_rules::{is_success, settles};
 use ocm_types::{Letter, Notice, Numbered, ProviderId};
 use std::alloc::Global;
 
@@ -33,12 +33,6 @@ fn asks_share(letter: &Letter) -> bool
     ensures { result ≡ delivery.asks_share letter.now }
 {
     matches!(letter, Letter::Notice(Notice::ReshareRequest { .. }))
-}
-
-fn is_success(status: u16) -> bool
-    ensures { result ≡ delivery.is_success status }
-{
-    200 <= status && status <= 299
 }
 
 /// The end point of a letter, behind the site's path.
