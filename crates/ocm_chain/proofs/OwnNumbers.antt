@@ -195,3 +195,7 @@ owned-numbers shares owners owner e =
     same k =
         ap (λ os. owns_at os owner k) e
         ∙ (ap (λ o. option_map_or (λ other. nat_eq other owner) o false) (slice_get-map (λ (s : Share). s.owner) (made_of shares) k) ∙ unwrapped (slice_get (made_of shares) k) owner)
+
+-- one number more is one step more
+pub spent-more : (xs ys : List ℕ) (n : ℕ) → ys ≡ xs ++ n ∷ [] → length ys ≡ length xs + 1
+spent-more xs ys n e = ap length e ∙ length-append xs (n ∷ [])

@@ -86,71 +86,34 @@ impl Chain {
         self.rows.len()
     }
 
-    /// The share of this number, closed or not.
-    pub fn share(&self, id: u32) -> Option<&Share>
-        ensures { option_copied result ≡ at_number (made_of self.now.shares) id }
+    /// The share of this number, closed or not. It takes one step at most.
+    pub fn share<L: Ledger>(&self, id: u32, steps: &mut Steps<L>) -> Option<&Share>
+        ensures share { option_copied result ≡ at_number (made_of self.now.shares) id }
+        ensures cost { steps.new ≤ steps.old + 1 }
+        ensures onward { steps.old ≤ steps.new }
     {
-        match self.get(id) {
+        match self.get(id, steps) {
             Some(row) => Some(&row.own.share),
             None => None,
         }
     }
 
-    // The row of this number, where there is one, with a count that nobody reads.
-    fn get(&self, id: u32) -> Option<&Row>
+    // The row of this number, where there is one.
+    fn get<L: Ledger>(&self, id: u32, steps: &mut Steps<L>) -> Option<&Row>
         ensures own { option_map (λ (row : Row). row.own) (option_copied result) ≡ at_number self.now.shares id }
         ensures reach { IfSome result (λ row. row.now.reach ≡ reach_at self.now.shares id) }
+        ensures cost { steps.new ≤ steps.old + 1 }
+        ensures onward { steps.old ≤ steps.new }
     {
         if id == 0 || id > self.rows.len() {
             return None;
         }
-        Some(self.at(id))
-    }
-
-    // The row of a number that is there, with a count that nobody reads.
-    fn at(&self, id: u32) -> &Row
-        requires low { 1 ≤ id }
-        requires high { id ≤ length self.now.shares }
-        ensures own { at_number self.now.shares id ≡ Some result.now.own }
-        ensures reach { result.now.reach ≡ reach_at self.now.shares id }
-    {
-        self.at_from::<Brand>(id, Blank::new(1))
-    }
-
-    fn at_from<L: Ledger>(&self, id: u32, blank: Blank) -> &Row
-        requires low { 1 ≤ id }
-        requires high { id ≤ length self.now.shares }
-        requires name { blank.name ≡ L.name }
-        requires parts { blank.parts ≡ L.parts }
-        requires some { 0 < L.parts }
-        ensures own { at_number self.now.shares id ≡ Some result.now.own }
-        ensures reach { result.now.reach ≡ reach_at self.now.shares id }
-    {
-        let mut steps = Steps::open(blank);
-        self.rows.read::<L>(id, &mut steps)
-    }
-
-    /// The number of the share with this secret.
-    pub fn find(&self, secret: &Secret) -> Option<u32>
-        ensures { result ≡ share_of_secret (made_of self.now.shares) secret.now }
-    {
-        self.find_from::<Brand>(secret, Blank::new(1))
-    }
-
-    // As `find`, with a count that nobody reads.
-    fn find_from<L: Ledger>(&self, secret: &Secret, blank: Blank) -> Option<u32>
-        requires name { blank.name ≡ L.name }
-        requires parts { blank.parts ≡ L.parts }
-        requires some { 0 < L.parts }
-        ensures { result ≡ share_of_secret (made_of self.now.shares) secret.now }
-    {
-        let mut steps = Steps::open(blank);
-        self.find_counted::<L>(secret, &mut steps)
+        Some(self.rows.read(id, steps))
     }
 
     /// The number of the share with this secret. It takes b steps at most, where 2 to the power of b
     /// is at most one more than twice the shares.
-    pub fn find_counted<L: Ledger>(&self, secret: &Secret, steps: &mut Steps<L>) -> Option<u32>
+    pub fn find<L: Ledger>(&self, secret: &Secret, steps: &mut Steps<L>) -> Option<u32>
         ensures found { result ≡ share_of_secret (made_of self.now.shares) secret.now }
         ensures cost { 2 ^ (steps.new - steps.old) ≤ 2 * length self.now.shares + 1 }
         ensures onward { steps.old ≤ steps.new }
@@ -159,18 +122,28 @@ impl Chain {
     }
 
     /// The number of the first share that was made below this one for the request with this mark of
-    /// its sender.
-    pub fn child(&self, parent: u32, sender_id: &SenderId) -> Option<u32>
-        ensures { result ≡ number_of (is_for_request parent sender_id.now) (made_of self.now.shares) }
+    /// its sender. It takes b steps at most, where 2 to the power of b is at most one more than twice
+    /// the shares.
+    pub fn child<L: Ledger>(
+        &self,
+        parent: u32,
+        sender_id: &SenderId,
+        steps: &mut Steps<L>,
+    ) -> Option<u32>
+        ensures found { result ≡ number_of (is_for_request parent sender_id.now) (made_of self.now.shares) }
+        ensures cost { 2 ^ (steps.new - steps.old) ≤ 2 * length self.now.shares + 1 }
+        ensures onward { steps.old ≤ steps.new }
     {
-        self.requests.find(parent, sender_id)
+        self.requests.find(parent, sender_id, steps)
     }
 
-    /// The numbers of the shares of a user's files, ascending.
-    pub fn owned(&self, owner: u32) -> Result<List<u32>, NoMemory>
-        ensures { IfOk result (λ list. list ≡ owned_by self.now.shares owner) }
+    /// The numbers of the shares of a user's files, ascending. It takes a step for each of them.
+    pub fn owned<L: Ledger>(&self, owner: u32, steps: &mut Steps<L>) -> Result<List<u32>, NoMemory>
+        ensures owned { IfOk result (λ list. list ≡ owned_by self.now.shares owner) }
+        ensures cost { IfOk result (λ list. steps.new ≡ steps.old + length list) }
+        ensures onward { steps.old ≤ steps.new }
     {
-        self.owners.owned(owner)
+        self.owners.owned(owner, steps)
     }
 
     /// The moment of the last advance, and 0 before the first.
@@ -180,64 +153,46 @@ impl Chain {
         self.moment
     }
 
-    /// The permissions of a share: those of its last limit, else what was granted.
-    pub fn perms(&self, id: u32) -> Perms
+    /// The permissions of a share: those of its last limit, else what was granted. It is one step.
+    pub fn perms<L: Ledger>(&self, id: u32, steps: &mut Steps<L>) -> Perms
         requires low { 1 ≤ id }
         requires high { id ≤ length self.now.shares }
-        ensures { result ≡ perms_at self.now.shares id }
+        ensures perms { result ≡ perms_at self.now.shares id }
+        ensures tick { steps.new ≡ steps.old + 1 }
     {
-        self.at(id).own.perms
+        self.rows.read(id, steps).own.perms
     }
 
     /// What a share lets its guest do: its own permissions, cut down to those of every share above it.
-    pub fn effective(&self, id: u32) -> Rights
+    /// It is one step.
+    pub fn effective<L: Ledger>(&self, id: u32, steps: &mut Steps<L>) -> Rights
         requires low { 1 ≤ id }
         requires high { id ≤ length self.now.shares }
-        ensures { result ≡ effective_at self.now.shares id }
+        ensures effective { result ≡ effective_at self.now.shares id }
+        ensures tick { steps.new ≡ steps.old + 1 }
     {
-        self.at(id).reach.effective
+        self.rows.read(id, steps).reach.effective
     }
 
     /// Whether the share of this number is live: it is there, and neither it nor one above it is
-    /// closed or over.
-    pub fn is_live(&self, id: u32) -> bool
-        ensures { result ≡ is_live_at self.now.moment self.now.shares id }
+    /// closed or over. It takes one step at most.
+    pub fn is_live<L: Ledger>(&self, id: u32, steps: &mut Steps<L>) -> bool
+        ensures live { result ≡ is_live_at self.now.moment self.now.shares id }
+        ensures cost { steps.new ≤ steps.old + 1 }
+        ensures onward { steps.old ≤ steps.new }
     {
-        match self.get(id) {
+        match self.get(id, steps) {
             Some(row) => row.reach.goes_on(self.moment),
             None => false,
         }
     }
 
-    /// Whether the guest of a share is granted what is needed.
-    pub fn access(&self, id: u32, need: Need) -> Access
-        requires low { 1 ≤ id }
-        requires high { id ≤ length self.now.shares }
-        ensures { result ≡ access_by (is_live_at self.now.moment self.now.shares id) (effective_at self.now.shares id) need }
-    {
-        self.access_from::<Brand>(id, need, Blank::new(1))
-    }
-
-    // As `access`, with a count that nobody reads.
-    fn access_from<L: Ledger>(&self, id: u32, need: Need, blank: Blank) -> Access
-        requires low { 1 ≤ id }
-        requires high { id ≤ length self.now.shares }
-        requires name { blank.name ≡ L.name }
-        requires parts { blank.parts ≡ L.parts }
-        requires some { 0 < L.parts }
-        ensures { result ≡ access_by (is_live_at self.now.moment self.now.shares id) (effective_at self.now.shares id) need }
-    {
-        let mut steps = Steps::open(blank);
-        self.access_counted::<L>(id, need, &mut steps)
-    }
-
-    /// Whether the guest of a share is granted what is needed, in one step at most.
-    pub fn access_counted<L: Ledger>(&self, id: u32, need: Need, steps: &mut Steps<L>) -> Access
+    /// Whether the guest of a share is granted what is needed. It is one step.
+    pub fn access<L: Ledger>(&self, id: u32, need: Need, steps: &mut Steps<L>) -> Access
         requires low { 1 ≤ id }
         requires high { id ≤ length self.now.shares }
         ensures access { result ≡ access_by (is_live_at self.now.moment self.now.shares id) (effective_at self.now.shares id) need }
-        ensures cost { steps.new ≤ steps.old + 1 }
-        ensures onward { steps.old ≤ steps.new }
+        ensures tick { steps.new ≡ steps.old + 1 }
     {
         let reach = self.rows.read(id, steps).reach;
         Access::of(reach.goes_on(self.moment), reach.effective, need)
@@ -246,7 +201,7 @@ impl Chain {
     /// The live share with this secret, and what it lets its guest do. It looks at b places of the
     /// index of secrets at most, where 2 to the power of b is at most one more than twice the shares,
     /// and at one row at most, at any depth.
-    pub fn guest_counted<I: Ledger, R: Ledger>(
+    pub fn guest<I: Ledger, R: Ledger>(
         &self,
         secret: &Secret,
         probes: &mut Probes<I, R>,
@@ -256,17 +211,16 @@ impl Chain {
         ensures rows { probes.new.rows ≤ probes.old.rows + 1 }
         ensures onward { (probes.old.index ≤ probes.new.index) × (probes.old.rows ≤ probes.new.rows) }
     {
-        let id = self.find_counted(secret, &mut probes.index)?;
-        self.granted_counted(id, &mut probes.rows)
+        let id = self.find(secret, &mut probes.index)?;
+        self.granted(id, &mut probes.rows)
     }
 
-    // The share of this number, where it is live, and what it lets its guest do, in one step at most.
-    fn granted_counted<L: Ledger>(&self, id: u32, steps: &mut Steps<L>) -> Option<(&Share, Rights)>
+    // The share of this number, where it is live, and what it lets its guest do, in one step.
+    fn granted<L: Ledger>(&self, id: u32, steps: &mut Steps<L>) -> Option<(&Share, Rights)>
         requires low { 1 ≤ id }
         requires high { id ≤ length self.now.shares }
         ensures guest { option_map (λ found. (found.0.now, found.1)) result ≡ guest_at self.now.moment self.now.shares id }
-        ensures cost { steps.new ≤ steps.old + 1 }
-        ensures onward { steps.old ≤ steps.new }
+        ensures tick { steps.new ≡ steps.old + 1 }
     {
         let row = self.rows.read(id, steps);
         if !row.reach.goes_on(self.moment) {
@@ -277,24 +231,34 @@ impl Chain {
 
     /// The numbers of the live shares that closing this one takes, ascending, its own first where it
     /// is live. It looks at this share alone where none was made below it, and goes over all shares
-    /// else.
-    pub fn cut_by(&self, id: u32) -> Result<List<u32>, NoMemory>
+    /// else, twice.
+    pub fn cut_by<L: Ledger>(&self, id: u32, steps: &mut Steps<L>) -> Result<List<u32>, NoMemory>
         requires low { 1 ≤ id }
         requires high { id ≤ length self.now.shares }
-        ensures { IfOk result (λ list. list ≡ cut_by self.now.moment self.now.shares id) }
+        ensures cut { IfOk result (λ list. list ≡ cut_by self.now.moment self.now.shares id) }
+        ensures cost { steps.new ≤ steps.old + 2 * length self.now.shares + 1 }
+        ensures onward { steps.old < steps.new }
     {
-        self.rows.cut_by(id, self.moment)
+        self.rows.cut_by(id, self.moment, steps)
     }
 
     /// What the guests are told once this share is limited to these permissions, by number, ascending:
     /// those of live shares who may do something afterwards, and something else than before. It looks
-    /// at this share alone where none was made below it, and goes over all shares else.
-    pub fn changed(&self, id: u32, perms: Perms) -> Result<List<Change>, NoMemory>
+    /// at this share and the one above it where none was made below it, and goes over all shares
+    /// else, twice.
+    pub fn changed<L: Ledger>(
+        &self,
+        id: u32,
+        perms: Perms,
+        steps: &mut Steps<L>,
+    ) -> Result<List<Change>, NoMemory>
         requires low { 1 ≤ id }
         requires high { id ≤ length self.now.shares }
-        ensures { IfOk result (λ list. list ≡ changes_by self.now.moment self.now.shares id perms) }
+        ensures changed { IfOk result (λ list. list ≡ changes_by self.now.moment self.now.shares id perms) }
+        ensures cost { steps.new ≤ steps.old + 2 * length self.now.shares + 1 }
+        ensures onward { steps.old < steps.new }
     {
-        self.rows.changed(id, perms, self.moment)
+        self.rows.changed(id, perms, self.moment, steps)
     }
 
     /// Makes room for one more share.
@@ -322,10 +286,29 @@ impl Chain {
         ensures moment { self.new.moment ≡ self.old.moment }
         ensures room { self.old.room ≤ self.new.room + 1 }
     {
+        self.make_from::<Brand>(planned, Blank::new(1))
+    }
+
+    // Makes a share, with a count of its own for the places in the indexes, which no clause bounds.
+    fn make_from<L: Ledger>(&mut self, planned: PlannedShare, blank: Blank) -> u32
+        requires room { 0 < self.old.room }
+        requires few { length self.old.shares < most_shares }
+        requires secret { share_of_secret (made_of self.old.shares) planned.secret ≡ None }
+        requires parent { IsAmongFirst (length self.old.shares) planned.parent }
+        requires name { blank.name ≡ L.name }
+        requires parts { blank.parts ≡ L.parts }
+        requires some { 0 < L.parts }
+        ensures number { result ≡ length self.new.shares }
+        ensures shares { self.new.shares ≡ self.old.shares ++ new_share_row planned ∷ [] }
+        ensures moment { self.new.moment ≡ self.old.moment }
+        ensures room { self.old.room ≤ self.new.room + 1 }
+    {
+        let mut steps: Steps<L> = Steps::open(blank);
         let (share, secret, sender_id) = planned.parts();
         let number = self.rows.len() + 1;
-        self.requests.keep(share.parent, sender_id, number);
-        self.secrets.add(secret, number);
+        self.requests
+            .keep(share.parent, sender_id, number, &mut steps);
+        self.secrets.add(secret, number, &mut steps);
         self.owners.add(share.owner);
         self.rows.add(share);
         number

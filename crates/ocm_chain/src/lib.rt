@@ -2,7 +2,10 @@
 //!
 //! [`Chain`] keeps for each share what is left of it by itself and all those above it, so that
 //! to answer who may do what takes the same time at any depth. A share is planned first, as a
-//! [`PlannedShare`], and room is made for it; these steps want memory, and the changes want none.
+//! [`PlannedShare`], and room is made for it; planning and room take memory, and the changes take none.
+//!
+//! Each call that looks at a row or searches an index counts its looks in [`Steps`], which take no
+//! bytes and do nothing at run time: how many they are at most is a clause of the call.
 #![tactic(auto)]
 
 mod answers;

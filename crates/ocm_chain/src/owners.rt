@@ -2,10 +2,12 @@ ghost use Rattle.std.specs.Prelude.{◌≡◌, ◌<◌, ◌≤◌, ◌+◌, ◌+
 ghost use Rattle.ocm_limits.specs.Limits.{most_shares};
 ghost use Rattle.ocm_chain.specs.Owners.{numbers_up};
 
+use crate::steps::Steps;
 use ocm_base::{List, NoMemory};
 use std::alloc::Global;
 use std::collections::HashMap;
 use std::marker::Model;
+use std::sync::ledger::Ledger;
 
 /// A share's owner, and the number of the owner's share before it, 0 for none.
 #[derive(Clone, Copy)]
@@ -60,13 +62,16 @@ impl OwnerIndex {
         }
     }
 
-    /// The numbers of an owner's shares, ascending.
-    pub fn owned(&self, owner: u32) -> Result<List<u32>, NoMemory>
-        ensures { IfOk result (λ list. list ≡ numbers_up self.now.owners owner (length self.now.owners)) }
+    /// The numbers of an owner's shares, ascending. It takes a step for each of them.
+    pub fn owned<L: Ledger>(&self, owner: u32, steps: &mut Steps<L>) -> Result<List<u32>, NoMemory>
+        ensures owned { IfOk result (λ list. list ≡ numbers_up self.now.owners owner (length self.now.owners)) }
+        ensures cost { IfOk result (λ list. steps.new ≡ steps.old + length list) }
+        ensures onward { steps.old ≤ steps.new }
     {
         let mut numbers = Vec::new(*self.links.allocator());
         let mut number = or_none(self.last.get(&owner));
         while number > 0 {
+            steps.tick();
             numbers.push(number)?;
             number = self.links[number as usize - 1].earlier;
         }

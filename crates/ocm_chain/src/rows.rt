@@ -1,4 +1,4 @@
-ghost use Rattle.std.specs.Prelude.{◌≡◌, ◌<◌, ◌≤◌, ◌+◌, ◌++◌, ◌∷◌, [], length, true, false, Some, OnOk, IfOk};
+ghost use Rattle.std.specs.Prelude.{◌≡◌, ◌<◌, ◌≤◌, ◌+◌, ◌*◌, ◌++◌, ◌∷◌, [], length, true, false, Some, OnOk, IfOk};
 ghost use Rattle.ocm_limits.specs.Limits.{most_shares};
 ghost use Rattle.ocm_types.specs.declared.rights.Rights.{Rights};
 ghost use Rattle.ocm_rules.specs.declared.rows.ShareRow.{ShareRow};
@@ -181,40 +181,57 @@ impl Rows {
     }
 
     /// The numbers of the live shares that closing one takes, ascending.
-    pub(crate) fn cut_by(&self, id: u32, moment: u64) -> Result<List<u32>, NoMemory>
+    pub(crate) fn cut_by<L: Ledger>(
+        &self,
+        id: u32,
+        moment: u64,
+        steps: &mut Steps<L>,
+    ) -> Result<List<u32>, NoMemory>
         requires low { 1 ≤ id }
         requires high { id ≤ length self.now.shares }
-        ensures { IfOk result (λ list. list ≡ cut_by moment self.now.shares id) }
+        ensures cut { IfOk result (λ list. list ≡ cut_by moment self.now.shares id) }
+        ensures cost { steps.new ≤ steps.old + 2 * length self.now.shares + 1 }
+        ensures onward { steps.old < steps.new }
     {
         let alloc = *self.rows.allocator();
+        steps.tick();
         let row = self.at(id);
         if !row.is_parent {
             return cut_alone(alloc, id, row.reach, moment);
         }
         let rights = row.own.perms.rights();
+        steps.add(self.len());
         let after = reaches_with(alloc, &self.rows, id, rights, true)?;
+        steps.add(self.len());
         cut_among(alloc, &self.rows, &after, moment)
     }
 
     /// What guests are told once one share is limited, ascending.
-    pub(crate) fn changed(
+    pub(crate) fn changed<L: Ledger>(
         &self,
         id: u32,
         perms: Perms,
         moment: u64,
+        steps: &mut Steps<L>,
     ) -> Result<List<Change>, NoMemory>
         requires low { 1 ≤ id }
         requires high { id ≤ length self.now.shares }
-        ensures { IfOk result (λ list. list ≡ changes_by moment self.now.shares id perms) }
+        ensures changed { IfOk result (λ list. list ≡ changes_by moment self.now.shares id perms) }
+        ensures cost { steps.new ≤ steps.old + 2 * length self.now.shares + 1 }
+        ensures onward { steps.old < steps.new }
     {
         let alloc = *self.rows.allocator();
+        steps.tick();
         let row = self.at(id);
         let closed = row.own.closed;
         if !row.is_parent {
+            steps.tick();
             let after = reach_alone(&self.rows, id, perms.rights(), closed);
             return changes_alone(alloc, id, row.reach, after, moment);
         }
+        steps.add(self.len());
         let after = reaches_with(alloc, &self.rows, id, perms.rights(), closed)?;
+        steps.add(self.len());
         changes_among(alloc, &self.rows, &after, moment)
     }
 }

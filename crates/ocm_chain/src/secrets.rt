@@ -7,8 +7,8 @@ use ocm_base::NoMemory;
 use ocm_types::Secret;
 use std::alloc::Global;
 use std::cmp::Ordering;
-use std::marker::{Brand, Model};
-use std::sync::ledger::{Blank, Ledger};
+use std::marker::Model;
+use std::sync::ledger::Ledger;
 
 /// A secret with the number of the share that has it.
 #[derive(Drop)]
@@ -121,20 +121,8 @@ impl SecretIndex {
         Ok(())
     }
 
-    // The place of a secret, with a count that nobody reads.
-    fn place_from<L: Ledger>(&self, secret: &Secret, blank: Blank) -> Result<u32, u32>
-        requires name { blank.name ≡ L.name }
-        requires parts { blank.parts ≡ L.parts }
-        requires some { 0 < L.parts }
-        ensures found { IfOk result (IsEqualAt (λ (e : SecretEntry). secret_cmp e secret.now) self.now.entries) }
-        ensures absent { IfErr result (ArePartedAt (λ (e : SecretEntry). secret_cmp e secret.now) self.now.entries) }
-    {
-        let mut steps = Steps::open(blank);
-        self.place_of::<L>(secret, &mut steps)
-    }
-
     /// Adds a secret that has no number yet.
-    pub(crate) fn add(&mut self, secret: Secret, number: u32)
+    pub(crate) fn add<L: Ledger>(&mut self, secret: Secret, number: u32, steps: &mut Steps<L>)
         requires room { 0 < self.old.room }
         requires few { length self.old.entries < most_shares }
         requires fresh { number_with self.old.entries secret ≡ None }
@@ -142,7 +130,7 @@ impl SecretIndex {
         ensures len { length self.new.entries ≡ length self.old.entries + 1 }
         ensures room { self.old.room ≤ self.new.room + 1 }
     {
-        if let Err(place) = self.place_from::<Brand>(&secret, Blank::new(1)) {
+        if let Err(place) = self.place_of(&secret, steps) {
             self.entries
                 .insert(place as usize, SecretEntry { secret, number })
                 .unwrap();

@@ -39,13 +39,22 @@ impl<L: Ledger> Steps<L> {
     {
         self.book.add(&mut self.share, 1);
     }
+
+    /// So many steps more.
+    pub(crate) fn add(&mut self, count: u32)
+        ensures { self.new ≡ self.old + count }
+    {
+        self.book.add(&mut self.share, u64::from(count));
+    }
 }
 
 /// How many steps were taken at the index of secrets, and how many at the rows. It takes no bytes and
 /// does nothing at run time: only contracts see the numbers.
 pub struct Probes<I: Ledger, R: Ledger> {
-    pub(crate) index: Steps<I>,
-    pub(crate) rows: Steps<R>,
+    /// At the index of secrets.
+    pub index: Steps<I>,
+    /// At the rows.
+    pub rows: Steps<R>,
 }
 
 impl<I: Ledger, R: Ledger> Drop for Probes<I, R> {

@@ -10,8 +10,8 @@ use Rattle.ocm_rules.specs.History.{changes, kept}
 use Rattle.ocm_rules.specs.State.{State, view_in}
 use Rattle.ocm_rules.proofs.Kept.{kept-answered}
 use Rattle.ocm_rules.proofs.States.{state_of-read}
-use Rattle.ocm_tables.specs.declared.changes.Change.{Change}
-use Rattle.ocm_tables.specs.declared.changes.Change.TheVariants as change
+use Rattle.ocm_tables.specs.declared.changes.TableChange.{TableChange}
+use Rattle.ocm_tables.specs.declared.changes.TableChange.TheVariants as change
 use Rattle.ocm_tables.specs.Changes.{changed, entries_after, file_act, is_kept}
 use Rattle.ocm_tables.specs.Tables.{ServerLists}
 use Rattle.ocm_plan.specs.Plans.{Plan, Plans, act_in}
@@ -27,12 +27,12 @@ act-after : (st : State) (g : List Entry) (ask : Ask) → IsAfter st g → act_i
 act-after st g ask h = sym (ap (λ v. act_in v ask) (view-after st g h))
 
 -- a change that is not kept does nothing to files
-unkept-act : (c : Change) → is_kept c ≡ false → file_act c ≡ None
+unkept-act : (c : TableChange) → is_kept c ≡ false → file_act c ≡ None
 unkept-act change.Nothing e = refl
 unkept-act _ e = absurd (cc)
 
 -- the numbers and the nodes once a change is made are those of a list of kept entries
-record Grows (host : List ℕ) (k : List Entry) (c : Change) (entries : ℕ) (os : List Origin) (ns : List Node) : Type 0 where
+record Grows (host : List ℕ) (k : List Entry) (c : TableChange) (entries : ℕ) (os : List Origin) (ns : List Node) : Type 0 where
   pub count : entries_after entries c ≡ length k
   pub places : origins_after (file_act c) (entries_after entries c) os ≡ origins host k
   pub standing : nodes_after (file_act c) ns ≡ nodes host k
@@ -41,7 +41,7 @@ counted-on : (entries : ℕ) (k : List Entry) (e : Entry) → entries ≡ length
 counted-on entries k e is few = omega arith
 
 -- an entry that is kept, and one that is not
-grows : (host : List ℕ) (k : List Entry) (e : Entry) (c : Change) (entries : ℕ) (os : List Origin) (ns : List Node)
+grows : (host : List ℕ) (k : List Entry) (e : Entry) (c : TableChange) (entries : ℕ) (os : List Origin) (ns : List Node)
     → entries ≡ length k → os ≡ origins host k → ns ≡ nodes host k → length k < 18446744073709551615
     → (is_kept c ≡ true → file_act c ≡ act_after host k e.ask)
     → (b : Bool) → is_kept c ≡ b → Grows host (if b then e ∷ k else k) c entries os ns
@@ -75,12 +75,12 @@ grows-planned lists g ask plan h counted plans few =
     (changes host (kept host g) (record { ask = ask; reply = plan.reply })) (plans.kept ∙ changes-after lists.state g ask plan.reply h)
 
 -- what is found in the tables by its number, and what is found so by the plan
-pub found-with : (lists : ServerLists) (plan : Plan) (number : ℕ) (c : Change) (found : Option Standing) → c ≡ plan.change
+pub found-with : (lists : ServerLists) (plan : Plan) (number : ℕ) (c : TableChange) (found : Option Standing) → c ≡ plan.change
     → found ≡ body_from (nodes_after (file_act c) lists.state.nodes) (origins_after (file_act c) (entries_after lists.entries c) lists.origins) number
     → body_of found ≡ body_with lists plan number
 found-with lists plan number c found is at =
     ap body_of at
-    ∙ ap (λ (d : Change). body_of (body_from (nodes_after (file_act d) lists.state.nodes) (origins_after (file_act d) (entries_after lists.entries d) lists.origins) number)) is
+    ∙ ap (λ (d : TableChange). body_of (body_from (nodes_after (file_act d) lists.state.nodes) (origins_after (file_act d) (entries_after lists.entries d) lists.origins) number)) is
 
 -- where few entries are kept, few are counted
 pub few-counted : (lists : ServerLists) (g : List Entry) → IsNumbered lists g → length (kept lists.state.host g) < 18446744073709551615 → lists.entries < 18446744073709551615

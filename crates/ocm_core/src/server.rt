@@ -1,4 +1,4 @@
-ghost use Rattle.std.specs.Prelude.{◌≡◌, ◌≤◌, ◌<◌, ◌∷◌, [], ℕ, length, IfOk, OnOk, List, Some, IsTrue, option_copied, option_map};
+ghost use Rattle.std.specs.Prelude.{◌≡◌, ◌≤◌, ◌<◌, ◌∷◌, [], ℕ, length, IfOk, OnOk, List, Some, IsTrue, false, option_copied, option_map};
 ghost use Rattle.ocm_entry.specs.declared.asks.Ask.{Ask};
 ghost use Rattle.ocm_entry.specs.declared.entries.Entry.{Entry};
 ghost use Rattle.ocm_entry.specs.Proper.{is_proper};
@@ -10,6 +10,7 @@ ghost use Rattle.ocm_rules.specs.State.{empty_of, view_in};
 ghost use Rattle.ocm_tables.specs.Changes.{HasNumbers, HasRoom, changed, is_kept};
 ghost use Rattle.ocm_tables.specs.Tables.{GrantCost};
 ghost use Rattle.ocm_plan.specs.Plans.{Plans};
+ghost use Rattle.ocm_core.specs.Looks.{may_look_beside};
 ghost use Rattle.ocm_core.specs.Standing.{IsAfter, IsNumbered, IsPlanned, body_of as bytes_of, body_with, standing_body};
 
 use ocm_base::{Bytes, NoMemory};
@@ -18,7 +19,7 @@ use ocm_plan::{Planned, plan_new_user, plan_tick};
 use ocm_plan_dav::{plan_carry, plan_dav};
 use ocm_plan_local::plan_command;
 use ocm_plan_peers::{plan_due, plan_notice, plan_offer, plan_settle};
-use ocm_tables::{Probes, Tables};
+use ocm_tables::{Probes, Steps, Tables};
 use ocm_types::{Host, Numbered};
 use std::alloc::Global;
 use std::marker::{Brand, Model};
@@ -93,7 +94,58 @@ impl Core {
             → is_kept plan.change ≡ changes self.now.state.host (kept self.now.state.host g) (record { ask = ask.now; reply = plan.reply })) }
         ensures numbers { IfOk result (λ plan. HasNumbers self.now.state plan.sent) }
     {
-        let planned = plan_from::<Brand, Brand>(&self.tables, ask, Blank::new(1), Blank::new(1))?;
+        let planned = self.answer_from::<Brand, Brand, Brand>(
+            ask,
+            Blank::new(1),
+            Blank::new(1),
+            Blank::new(1),
+        )?;
+        Ok(planned)
+    }
+
+    // The reply to an ask, with counts of its own. No other function of the core opens a ledger.
+    fn answer_from<I: Ledger, R: Ledger, L: Ledger>(
+        &self,
+        ask: &Ask,
+        index: Blank,
+        rows: Blank,
+        steps: Blank,
+    ) -> Result<Planned, NoMemory>
+        requires proper { IsTrue (is_proper ask.now) }
+        requires index_name { index.name ≡ I.name }
+        requires index_parts { index.parts ≡ I.parts }
+        requires some_index { 0 < I.parts }
+        requires rows_name { rows.name ≡ R.name }
+        requires rows_parts { rows.parts ≡ R.parts }
+        requires some_rows { 0 < R.parts }
+        requires steps_name { steps.name ≡ L.name }
+        requires steps_parts { steps.parts ≡ L.parts }
+        requires some_steps { 0 < L.parts }
+        ensures plans { IfOk result (λ plan. Plans self.now.state ask.now plan) }
+        ensures numbers { IfOk result (λ plan. HasNumbers self.now.state plan.sent) }
+    {
+        let mut probes = Probes::open(index, rows);
+        let mut steps = Steps::open(steps);
+        self.answer_counted::<I, R, L>(ask, &mut probes, &mut steps)
+    }
+
+    /// As `answer`, with each look at shares counted. To find and grant the holder of the ask's secret
+    /// takes b looks at the index of secrets at most, where 2 to the power of b is at most one more
+    /// than twice the shares, and one row at most, at any depth. Only a user's command and another
+    /// server's notice take steps beside these, which no clause bounds.
+    pub fn answer_counted<I: Ledger, R: Ledger, L: Ledger>(
+        &self,
+        ask: &Ask,
+        probes: &mut Probes<I, R>,
+        steps: &mut Steps<L>,
+    ) -> Result<Planned, NoMemory>
+        requires { IsTrue (is_proper ask.now) }
+        ensures plans { IfOk result (λ plan. Plans self.now.state ask.now plan) }
+        ensures numbers { IfOk result (λ plan. HasNumbers self.now.state plan.sent) }
+        ensures cost { GrantCost (length self.now.state.shares) probes.old probes.new }
+        ensures beside { may_look_beside ask.now ≡ false → steps.new ≡ steps.old }
+    {
+        let planned = plan(&self.tables, ask, probes, steps)?;
         Ok(planned)
     }
 
@@ -143,41 +195,24 @@ impl Core {
     }
 }
 
-/// The plan for an ask, with counts of its own.
-fn plan_from<I: Ledger, R: Ledger>(
-    tables: &Tables,
-    ask: &Ask,
-    index: Blank,
-    rows: Blank,
-) -> Result<Planned, NoMemory>
-    requires proper { IsTrue (is_proper ask.now) }
-    requires index_name { index.name ≡ I.name }
-    requires index_parts { index.parts ≡ I.parts }
-    requires some_index { 0 < I.parts }
-    requires rows_name { rows.name ≡ R.name }
-    requires rows_parts { rows.parts ≡ R.parts }
-    requires some_rows { 0 < R.parts }
-    ensures { IfOk result (λ plan. Plans tables.now.state ask.now plan) }
-{
-    let mut probes = Probes::open(index, rows);
-    plan::<I, R>(tables, ask, &mut probes)
-}
-
-/// The plan for an ask. What it costs to find and grant the holder of its secret is counted.
-fn plan<I: Ledger, R: Ledger>(
+/// The plan for an ask. What it costs to find and grant the holder of its secret is counted, and what
+/// users' commands and notices look at by itself.
+fn plan<I: Ledger, R: Ledger, L: Ledger>(
     tables: &Tables,
     ask: &Ask,
     probes: &mut Probes<I, R>,
+    steps: &mut Steps<L>,
 ) -> Result<Planned, NoMemory>
     requires { IsTrue (is_proper ask.now) }
     ensures plans { IfOk result (λ plan. Plans tables.now.state ask.now plan) }
     ensures cost { GrantCost (length tables.now.state.shares) probes.old probes.new }
+    ensures beside { may_look_beside ask.now ≡ false → steps.new ≡ steps.old }
 {
     match ask {
-        Ask::AddUser { name, fresh } => plan_new_user(tables, name, fresh),
-        Ask::Local { key, cmd } => plan_command(tables, key, cmd),
+        Ask::AddUser { name, fresh } => plan_new_user(tables, name, fresh, &mut probes.index),
+        Ask::Local { key, cmd } => plan_command(tables, key, cmd, steps),
         Ask::Offer { offer } => plan_offer(tables, offer),
-        Ask::Notice { notice, fresh } => plan_notice(tables, notice, fresh),
+        Ask::Notice { notice, fresh } => plan_notice(tables, notice, fresh, steps),
         Ask::Dav {
             secret,
             method,

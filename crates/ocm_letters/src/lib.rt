@@ -14,6 +14,6 @@ mod shares;
 
 pub use guests::{acceptance, refusal, reshare_request, undo_of};
 pub use ids::{named, provider_id, sender_id, share_name};
-pub use mailings::{NewPerms, SharesByNumber, changed_all, unshared_all};
+pub use mailings::{NewPerms, add_changed, add_unshared};
 pub use settlements::{is_acceptance, is_change, is_refusal, is_success, settles, wants_id};
 pub use shares::{changed, child_share, granted, offered, own_share, unshared};

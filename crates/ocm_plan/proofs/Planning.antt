@@ -9,8 +9,8 @@ use Rattle.ocm_rules.specs.declared.rows.SentRow.{SentRow}
 use Rattle.ocm_rules.specs.Answers.{reply_in}
 use Rattle.ocm_rules.specs.History.{changes_in}
 use Rattle.ocm_rules.specs.State.{State, step, view_in}
-use Rattle.ocm_tables.specs.declared.changes.Change.{Change}
-use Rattle.ocm_tables.specs.declared.changes.Change.TheVariants as changes
+use Rattle.ocm_tables.specs.declared.changes.TableChange.{TableChange}
+use Rattle.ocm_tables.specs.declared.changes.TableChange.TheVariants as changes
 use Rattle.ocm_tables.specs.Changes.{Fits, changed, file_act, is_kept, with_sent}
 use Rattle.ocm_rules_steps.proofs.Refusals.{refused-entry}
 use Rattle.ocm_plan.specs.Plans.{Plans, act_in}
@@ -41,7 +41,7 @@ made-changed : (st : State) (ask : Ask) (reply : Reply) (b : Bool) → b ≡ tru
 made-changed st ask reply b e = rw e refl
 
 -- the plan of a reply that makes a change
-pub Plans-made : (st : State) (ask : Ask) (reply : Reply) (change : Change) (messages : List Message) → reply ≡ reply_in (view_in st) ask → changes_in (view_in st) ask reply ≡ true → is_kept change ≡ true
+pub Plans-made : (st : State) (ask : Ask) (reply : Reply) (change : TableChange) (messages : List Message) → reply ≡ reply_in (view_in st) ask → changes_in (view_in st) ask reply ≡ true → is_kept change ≡ true
     → changed st change messages ≡ step st ask reply → Fits st change → file_act change ≡ act_in (view_in st) ask
     → Plans st ask (record { reply = reply; change = change; sent = messages })
 Plans-made st ask reply change messages answered changing kept makes fits acts = record {

@@ -8,13 +8,13 @@ use Rattle.ocm_rules.specs.History.{changes_in}
 use Rattle.ocm_rules.specs.Holders.{root_among}
 use Rattle.ocm_rules.specs.Views.{View}
 use Rattle.ocm_rules.specs.State.{State, after, view_in}
-use Rattle.ocm_tables.specs.declared.changes.Change.{Change}
+use Rattle.ocm_tables.specs.declared.changes.TableChange.{TableChange}
 use Rattle.ocm_tables.specs.Changes.{Fits, changed, file_act, is_kept}
 
 -- a reply, what it changes, and the messages that are sent
 pub record Plan : Type 0 where
   pub reply : Reply
-  pub change : Change
+  pub change : TableChange
   pub sent : List Message
 
 -- what an ask does to files that is kept, by what is read of the history before

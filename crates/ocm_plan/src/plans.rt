@@ -9,14 +9,14 @@ ghost use Rattle.ocm_plan.specs.Plans.{Plans, act_in};
 use ocm_base::List;
 use ocm_entry::{Reply, Why};
 use ocm_rules::Message;
-use ocm_tables::{Change, Tables};
+use ocm_tables::{TableChange, Tables};
 use std::marker::Model;
 
 /// The reply to an ask, what it changes, and the messages that it sends. All memory that these need
 /// was taken when they were planned, but for the room in the tables.
 pub struct Planned {
     reply: Reply,
-    change: Change,
+    change: TableChange,
     sent: List<Message>,
 }
 
@@ -41,7 +41,7 @@ impl Model for Planned {
 impl Planned {
     /// A reply with what it changes and sends. It is the plan for an ask where the rules give this reply
     /// to it, and the reply changes the lists in this way.
-    pub fn new(tables: &Tables, reply: Reply, change: Change, sent: List<Message>) -> Planned
+    pub fn new(tables: &Tables, reply: Reply, change: TableChange, sent: List<Message>) -> Planned
         ensures plan { result ≡ record { reply = reply; change = change; sent = sent } }
         ensures plans { (ask : Ask) → reply ≡ reply_in (view_in tables.now.state) ask → changes_in (view_in tables.now.state) ask reply ≡ true → is_kept change ≡ true
             → changed tables.now.state change sent ≡ step tables.now.state ask reply → Fits tables.now.state change → file_act change ≡ act_in (view_in tables.now.state) ask → Plans tables.now.state ask result }
@@ -54,7 +54,7 @@ impl Planned {
     }
 
     /// A reply with what it changes, which sends nothing.
-    pub fn silent(tables: &Tables, reply: Reply, change: Change) -> Planned
+    pub fn silent(tables: &Tables, reply: Reply, change: TableChange) -> Planned
         ensures plan { result ≡ record { reply = reply; change = change; sent = [] } }
         ensures plans { (ask : Ask) → reply ≡ reply_in (view_in tables.now.state) ask → changes_in (view_in tables.now.state) ask reply ≡ true → is_kept change ≡ true
             → changed tables.now.state change [] ≡ step tables.now.state ask reply → Fits tables.now.state change → file_act change ≡ act_in (view_in tables.now.state) ask → Plans tables.now.state ask result }
@@ -68,19 +68,19 @@ impl Planned {
 
     /// A reply that changes nothing.
     pub fn only(tables: &Tables, reply: Reply) -> Planned
-        ensures plan { result ≡ record { reply = reply; change = Change.Nothing; sent = [] } }
+        ensures plan { result ≡ record { reply = reply; change = TableChange.Nothing; sent = [] } }
         ensures plans { (ask : Ask) → reply ≡ reply_in (view_in tables.now.state) ask → changes_in (view_in tables.now.state) ask reply ≡ false → Plans tables.now.state ask result }
     {
         Planned {
             reply,
-            change: Change::Nothing,
+            change: TableChange::Nothing,
             sent: List::new(tables.allocator()),
         }
     }
 
     /// A refusal.
     pub fn refused(tables: &Tables, why: Why) -> Planned
-        ensures plan { result ≡ record { reply = Reply.Refused why; change = Change.Nothing; sent = [] } }
+        ensures plan { result ≡ record { reply = Reply.Refused why; change = TableChange.Nothing; sent = [] } }
         ensures plans { (ask : Ask) → Reply.Refused why ≡ reply_in (view_in tables.now.state) ask → Plans tables.now.state ask result }
     {
         Planned::only(tables, Reply::Refused { why })
@@ -90,7 +90,7 @@ impl Planned {
     pub fn changes(&self) -> bool
         ensures { result ≡ is_kept self.now.change }
     {
-        !matches!(self.change, Change::Nothing)
+        !matches!(self.change, TableChange::Nothing)
     }
 
     /// The reply.
@@ -101,7 +101,7 @@ impl Planned {
     }
 
     /// What the reply changes.
-    pub fn change(&self) -> &Change
+    pub fn change(&self) -> &TableChange
         ensures { result.now ≡ self.now.change }
     {
         &self.change
@@ -129,7 +129,7 @@ impl Planned {
     }
 
     /// The reply, what it changes, and the messages that it sends.
-    pub fn into_parts(self) -> (Reply, Change, List<Message>)
+    pub fn into_parts(self) -> (Reply, TableChange, List<Message>)
         ensures reply { result.0 ≡ self.reply }
         ensures change { result.1 ≡ self.change }
         ensures sent { result.2 ≡ self.sent }

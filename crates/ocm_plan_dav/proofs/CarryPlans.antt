@@ -21,7 +21,7 @@ use Rattle.ocm_rules.specs.State.{State, node_at, view_in}
 use Rattle.ocm_rules.specs.Views.{View, grant_in}
 use Rattle.ocm_rules.proofs.Places.{above-from}
 use Rattle.ocm_tree.specs.Carries.{CarryLists}
-use Rattle.ocm_tables.specs.declared.changes.Change.TheVariants as changes
+use Rattle.ocm_tables.specs.declared.changes.TableChange.TheVariants as changes
 use Rattle.ocm_tables.specs.Changes.{Fits, changed, file_act}
 use Rattle.ocm_rules_steps.proofs.FileSteps.{carry-step}
 use Rattle.ocm_rules_steps.proofs.Rows.{none-sent}

@@ -20,8 +20,8 @@ use Rattle.ocm_rules.specs.Holders.{permits, root_among}
 use Rattle.ocm_rules.specs.History.{changes_in}
 use Rattle.ocm_rules.specs.State.{State, step, view_in}
 use Rattle.ocm_rules.specs.Views.{View, grant_in}
-use Rattle.ocm_tables.specs.declared.changes.Change.{Change}
-use Rattle.ocm_tables.specs.declared.changes.Change.TheVariants as changes
+use Rattle.ocm_tables.specs.declared.changes.TableChange.{TableChange}
+use Rattle.ocm_tables.specs.declared.changes.TableChange.TheVariants as changes
 use Rattle.ocm_tables.specs.Changes.{Fits, changed, file_act, is_kept}
 use Rattle.ocm_rules_steps.proofs.FileSteps.{put-step, mkcol-step, delete-step, root-granted}
 use Rattle.ocm_rules_steps.proofs.Rows.{none-sent}
@@ -44,7 +44,7 @@ PlansRefusal st why plan = (ask : Ask) → refused why ≡ reply_in (view_in st)
 abbrev pub PlansReply : State → Reply → Plan → Type 0
 PlansReply st reply plan = (ask : Ask) → reply ≡ reply_in (view_in st) ask → changes_in (view_in st) ask reply ≡ false → Plans st ask plan
 
-abbrev pub PlansChange : State → Reply → Change → Plan → Type 0
+abbrev pub PlansChange : State → Reply → TableChange → Plan → Type 0
 PlansChange st reply change plan =
     (ask : Ask) → reply ≡ reply_in (view_in st) ask → changes_in (view_in st) ask reply ≡ true → is_kept change ≡ true → changed st change [] ≡ step st ask reply → Fits st change → file_act change ≡ act_in (view_in st) ask → Plans st ask plan
 
@@ -62,7 +62,7 @@ tells st method place path body reply plan answered nothing plans =
     λ secret grant granted may at. plans (asks.Dav secret method path body) (answered ∙ method-answered (view_in st) secret method path body grant place granted may at) (nothing secret)
 
 -- the plan of a reply that makes a change
-makes : (st : State) (method : Method) (place : Place) (path : Segments) (body : List ℕ) (reply : Reply) (change : Change) (plan : Plan) → reply ≡ method_reply (view_in st) method place path body
+makes : (st : State) (method : Method) (place : Place) (path : Segments) (body : List ℕ) (reply : Reply) (change : TableChange) (plan : Plan) → reply ≡ method_reply (view_in st) method place path body
     → ((secret : List ℕ) → changes_in (view_in st) (asks.Dav secret method path body) reply ≡ true)
     → is_kept change ≡ true
     → ((secret : List ℕ) (grant : Grant) → grant_in (view_in st) secret ≡ Some grant → place ≡ below grant.root path → changed st change [] ≡ step st (asks.Dav secret method path body) reply)

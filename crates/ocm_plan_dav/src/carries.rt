@@ -17,7 +17,7 @@ use ocm_base::NoMemory;
 use ocm_entry::{Place, Why};
 use ocm_path::Path;
 use ocm_plan::Planned;
-use ocm_tables::{Change, Probes, Tables};
+use ocm_tables::{Probes, TableChange, Tables};
 use ocm_types::Secret;
 use std::sync::ledger::Ledger;
 
@@ -105,5 +105,5 @@ fn carry(tables: &Tables, from: &Place, to: &Place, moving: bool) -> Result<Plan
 {
     let planned = tables.files().plan_carry(from, to, moving)?;
     let standing = tables.standing_at(to);
-    Ok(Planned::silent(tables, put_done(standing), Change::Carry(planned)))
+    Ok(Planned::silent(tables, put_done(standing), TableChange::Carry(planned)))
 }

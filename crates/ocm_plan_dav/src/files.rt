@@ -13,7 +13,7 @@ use ocm_base::{Bytes, NoMemory};
 use ocm_entry::{Place, Reply, Standing, Why};
 use ocm_path::Path;
 use ocm_plan::Planned;
-use ocm_tables::{Change, Tables};
+use ocm_tables::{TableChange, Tables};
 use ocm_tree::PlannedNode;
 
 /// Plans GET or HEAD at a place (RFC 9110 sections 9.3.1 and 9.3.2).
@@ -59,7 +59,7 @@ fn put_file(tables: &Tables, place: Place, parent: Place, body: &Bytes) -> Resul
     let standing = tables.standing_at(&place);
     let body = body.copy()?;
     let node = PlannedNode::new(place, parent, Standing::File { body })?;
-    Ok(Planned::silent(tables, put_done(standing), Change::Put(node)))
+    Ok(Planned::silent(tables, put_done(standing), TableChange::Put(node)))
 }
 
 /// The reply to what was put, or carried, where this stood.
@@ -90,7 +90,7 @@ pub fn plan_mkcol(tables: &Tables, place: Place, body: &Bytes) -> Result<Planned
         return Ok(Planned::refused(tables, Why::Limit { which }));
     }
     let node = PlannedNode::new(place, parent, Standing::Collection)?;
-    Ok(Planned::silent(tables, Reply::Created, Change::Put(node)))
+    Ok(Planned::silent(tables, Reply::Created, TableChange::Put(node)))
 }
 
 /// Whether there are bytes.
@@ -110,5 +110,5 @@ pub fn plan_delete(tables: &Tables, place: Place, path: &Path) -> Planned
     if !stands(tables, &place) {
         return Planned::refused(tables, Why::NotFound);
     }
-    Planned::silent(tables, Reply::Removed, Change::Remove(place))
+    Planned::silent(tables, Reply::Removed, TableChange::Remove(place))
 }

@@ -29,7 +29,7 @@ use Rattle.ocm_rules.specs.Users.{name_of, user_of_key}
 use Rattle.ocm_rules.specs.Views.{cut_by, effective_with, told_by_limit}
 use Rattle.ocm_rules.specs.Messages.{acceptance, at_end, at_limit, refusal, reshare_request, undo, undo_of}
 use Rattle.ocm_rules.specs.State.{State, step, view_in}
-use Rattle.ocm_tables.specs.declared.changes.Change.TheVariants as changes
+use Rattle.ocm_tables.specs.declared.changes.TableChange.TheVariants as changes
 use Rattle.ocm_tables.specs.Changes.{FitsShare, acted, changed}
 use Rattle.ocm_rules_steps.proofs.CommandSteps.{accept_command-step, decline_command-step, expire_command-step, limit_command-step, reshare_command-step, share-step, undo_command-step, unshare_command-step}
 use Rattle.ocm_rules_steps.proofs.Rows.{none-sent}

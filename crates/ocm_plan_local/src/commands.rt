@@ -9,11 +9,18 @@ use crate::shares::{plan_expire, plan_limit, plan_new_share, plan_unshare};
 use ocm_base::NoMemory;
 use ocm_entry::{Cmd, Why};
 use ocm_plan::Planned;
-use ocm_tables::Tables;
+use ocm_tables::{Steps, Tables};
 use ocm_types::Secret;
+use std::sync::ledger::Ledger;
 
-/// A command by the holder of an account's key.
-pub fn plan_command(tables: &Tables, key: &Secret, cmd: &Cmd) -> Result<Planned, NoMemory>
+/// A command by the holder of an account's key. Its looks at shares are counted, and no clause bounds
+/// them: a command may go over all shares.
+pub fn plan_command<L: Ledger>(
+    tables: &Tables,
+    key: &Secret,
+    cmd: &Cmd,
+    steps: &mut Steps<L>,
+) -> Result<Planned, NoMemory>
     requires { IsTrue (is_proper (asks.Local key.now cmd.now)) }
     ensures { IfOk result (λ plan. Plans tables.now.state (asks.Local key.now cmd.now) plan) }
 {
@@ -26,10 +33,10 @@ pub fn plan_command(tables: &Tables, key: &Secret, cmd: &Cmd) -> Result<Planned,
             with,
             perms,
             fresh,
-        } => plan_new_share(tables, key, user, path, with, *perms, fresh),
-        Cmd::Unshare { id } => plan_unshare(tables, key, user, *id),
-        Cmd::Limit { id, perms } => plan_limit(tables, key, user, *id, *perms),
-        Cmd::Expire { id, until } => Ok(plan_expire(tables, key, user, *id, *until)),
+        } => plan_new_share(tables, key, user, path, with, *perms, fresh, steps),
+        Cmd::Unshare { id } => plan_unshare(tables, key, user, *id, steps),
+        Cmd::Limit { id, perms } => plan_limit(tables, key, user, *id, *perms, steps),
+        Cmd::Expire { id, until } => Ok(plan_expire(tables, key, user, *id, *until, steps)),
         Cmd::Accept { number } => plan_accept(tables, key, user, *number),
         Cmd::Decline { number } => plan_decline(tables, key, user, *number),
         Cmd::Reshare {
@@ -38,6 +45,6 @@ pub fn plan_command(tables: &Tables, key: &Secret, cmd: &Cmd) -> Result<Planned,
             perms,
         } => plan_reshare(tables, key, user, *number, with, *perms),
         Cmd::Undo { request } => plan_undo(tables, key, user, *request),
-        Cmd::List => plan_list(tables, key, user),
+        Cmd::List => plan_list(tables, key, user, steps),
     }
 }

@@ -18,7 +18,7 @@ use ocm_incoming::Record;
 use ocm_letters::{acceptance, refusal, reshare_request, undo_of};
 use ocm_limits::MOST_REQUESTS;
 use ocm_plan::{Planned, is_full, one_message};
-use ocm_tables::{Change, Tables};
+use ocm_tables::{TableChange, Tables};
 use ocm_types::{Address, Need, Perms, Phase, ProviderId, RequestPhase, Rights, Secret, Which};
 
 /// Whether the recipient of an offer has not decided.
@@ -61,7 +61,7 @@ pub fn plan_accept(
     let message = acceptance(number, &received.offer)?;
     let sent = one_message(tables, message)?;
     let phase = Phase::Accepting;
-    let change = Change::SetPhase { number, phase };
+    let change = TableChange::SetPhase { number, phase };
     Ok(Planned::new(tables, Reply::Done, change, sent))
 }
 
@@ -84,7 +84,7 @@ pub fn plan_decline(
     let message = refusal(number, &received.offer)?;
     let sent = one_message(tables, message)?;
     let phase = Phase::Declined;
-    let change = Change::SetPhase { number, phase };
+    let change = TableChange::SetPhase { number, phase };
     Ok(Planned::new(tables, Reply::Done, change, sent))
 }
 
@@ -156,7 +156,7 @@ fn plan_request(
     let message = reshare_request(tables.allocator(), r, with, perms, &received.offer)?;
     let sent = one_message(tables, message)?;
     let reply = Reply::Number { number: r };
-    let change = Change::AddRequest(request);
+    let change = TableChange::AddRequest(request);
     Ok(Planned::new(tables, reply, change, sent))
 }
 
@@ -194,7 +194,7 @@ fn plan_taken_back(
     };
     let message = undo_of(request, &received.offer, child)?;
     let sent = one_message(tables, message)?;
-    let change = Change::TakeBack { request };
+    let change = TableChange::TakeBack { request };
     Ok(Planned::new(tables, Reply::Done, change, sent))
 }
 

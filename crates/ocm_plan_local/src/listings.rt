@@ -13,50 +13,73 @@ use ocm_base::{List, NoMemory};
 use ocm_entry::{Line, Reply, Request, Share};
 use ocm_incoming::Record;
 use ocm_plan::Planned;
-use ocm_tables::Tables;
+use ocm_tables::{Steps, Tables};
 use ocm_types::{Name, Perms, Secret};
+use std::sync::ledger::Ledger;
 
 /// All that the user of this number has, who has this key. Nothing of other users is gone over.
-pub fn plan_list(tables: &Tables, key: &Secret, user: u32) -> Result<Planned, NoMemory>
+pub fn plan_list<L: Ledger>(
+    tables: &Tables,
+    key: &Secret,
+    user: u32,
+    steps: &mut Steps<L>,
+) -> Result<Planned, NoMemory>
     requires { user_of_key tables.now.state.users key.now ≡ Some user }
     ensures { IfOk result (λ plan. Plans tables.now.state (asks.Local key.now commands.List) plan) }
 {
-    let lines = listing(tables, user, user_name(tables, key, user))?;
+    let lines = listing(tables, user, user_name(tables, key, user), steps)?;
     Ok(Planned::only(tables, Reply::Listing { lines }))
 }
 
 /// All that the user of this number and this name has: the shares, the received shares, and the
 /// requests, each in the order of their numbers.
-fn listing(tables: &Tables, user: u32, name: &Name) -> Result<List<Line>, NoMemory>
+fn listing<L: Ledger>(
+    tables: &Tables,
+    user: u32,
+    name: &Name,
+    steps: &mut Steps<L>,
+) -> Result<List<Line>, NoMemory>
     requires { name.now ≡ name_of tables.now.state.users user }
     ensures { IfOk result (λ lines. lines ≡ listing (view_in tables.now.state) user) }
 {
-    let shares = tables.shares_of(user)?;
+    let shares = tables.shares_of(user, steps)?;
     let received = tables.records_of(name)?;
     let requests = tables.requests_of(name)?;
     let mut lines = List::new(tables.allocator());
-    add_shares(tables, shares.as_slice(), &mut lines)?;
+    add_shares(tables, shares.as_slice(), &mut lines, steps)?;
     add_received(tables, received.as_slice(), &mut lines)?;
     add_requests(tables, requests.as_slice(), &mut lines)?;
     Ok(lines)
 }
 
 /// Adds the lines of the shares of these numbers.
-fn add_shares(tables: &Tables, ids: &[u32], lines: &mut List<Line>) -> Result<(), NoMemory>
+fn add_shares<L: Ledger>(
+    tables: &Tables,
+    ids: &[u32],
+    lines: &mut List<Line>,
+    steps: &mut Steps<L>,
+) -> Result<(), NoMemory>
     ensures { OnOk result (lines.new ≡ lines.old ++ filter_map (share_told tables.now.state) ids.now) }
 {
     for id in ids {
-        add_share(tables, *id, lines)?;
+        add_share(tables, *id, lines, steps)?;
     }
     Ok(())
 }
 
 /// Adds the line of the share of this number.
-fn add_share(tables: &Tables, id: u32, lines: &mut List<Line>) -> Result<(), NoMemory>
+fn add_share<L: Ledger>(
+    tables: &Tables,
+    id: u32,
+    lines: &mut List<Line>,
+    steps: &mut Steps<L>,
+) -> Result<(), NoMemory>
     ensures { OnOk result (lines.new ≡ lines.old ++ option_to_list (share_told tables.now.state id)) }
 {
-    if let Some(share) = tables.share(id) {
-        let line = share_line(id, share, tables.perms(id), tables.is_live(id))?;
+    if let Some(share) = tables.share(id, steps) {
+        let perms = tables.perms(id, steps);
+        let live = tables.is_live(id, steps);
+        let line = share_line(id, share, perms, live)?;
         lines.push(line)?;
     }
     Ok(())

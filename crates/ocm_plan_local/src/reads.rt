@@ -10,8 +10,9 @@ use ocm_base::NoMemory;
 use ocm_entry::{Place, Request, Share, Why};
 use ocm_incoming::Record;
 use ocm_path::Path;
-use ocm_tables::Tables;
+use ocm_tables::{Steps, Tables};
 use ocm_types::{Name, Offer, Secret};
+use std::sync::ledger::Ledger;
 
 /// The name of the user of this number, who has this key.
 pub fn user_name<'a>(tables: &'a Tables, key: &Secret, user: u32) -> &'a Name
@@ -32,13 +33,18 @@ pub fn stands(tables: &Tables, user: u32, path: &Path) -> Result<bool, NoMemory>
 
 /// The share of this number, where it is this user's and live, and else why it can neither end nor be
 /// limited.
-pub fn live_share(tables: &Tables, user: u32, id: u32) -> Result<&Share, Why>
+pub fn live_share<'a, L: Ledger>(
+    tables: &'a Tables,
+    user: u32,
+    id: u32,
+    steps: &mut Steps<L>,
+) -> Result<&'a Share, Why>
     ensures ok { IfOk result (λ share. IsLiveShare tables.now.state user id share.now) }
     ensures err { IfErr result (λ why. end_reply (share_of_owner (view_in tables.now.state) user id) (is_live_in (view_in tables.now.state) id) ≡ refused why) }
 {
-    match tables.owned_share(user, id) {
+    match tables.owned_share(user, id, steps) {
         Some(share) => {
-            if tables.is_live(id) {
+            if tables.is_live(id, steps) {
                 Ok(share)
             } else {
                 Err(Why::WrongPhase)

@@ -16,27 +16,34 @@ ghost use Rattle.ocm_plan_local.specs.Told.{new_perms};
 
 use crate::reads::{live_share, stands, user_name};
 use ocm_base::{List, NoMemory};
-use ocm_chain::{Change as Changed, PlannedShare, plan_share};
+use ocm_chain::{Change, PlannedShare, plan_share};
 use ocm_entry::{AddressField, Reply, Share, Why};
-use ocm_letters::{NewPerms, changed_all, offered, own_share};
+use ocm_letters::{NewPerms, offered, own_share};
 use ocm_limits::{MOST_CHANGES, MOST_RESTRICTIONS, MOST_SHARES};
 use ocm_path::Path;
-use ocm_plan::{Planned, is_full, one_message, told_of_ends};
+use ocm_plan::{Planned, is_full, one_message, told_of_ends, told_of_perms};
 use ocm_rules::Message;
-use ocm_tables::{Change, Tables};
+use ocm_tables::{Steps, TableChange, Tables};
 use ocm_types::{Address, Fresh, Name, Perms, Secret, Which};
 use std::alloc::Global;
+use std::sync::ledger::Ledger;
 
 /// The end of a share, by the user of this number, who has this key.
-pub fn plan_unshare(tables: &Tables, key: &Secret, user: u32, id: u32) -> Result<Planned, NoMemory>
+pub fn plan_unshare<L: Ledger>(
+    tables: &Tables,
+    key: &Secret,
+    user: u32,
+    id: u32,
+    steps: &mut Steps<L>,
+) -> Result<Planned, NoMemory>
     requires { user_of_key tables.now.state.users key.now ≡ Some user }
     ensures { IfOk result (λ plan. Plans tables.now.state (asks.Local key.now (commands.Unshare id)) plan) }
 {
-    match live_share(tables, user, id) {
+    match live_share(tables, user, id, steps) {
         Ok(_share) => {
-            let ids = tables.cut_by(id)?;
-            let sent = told_of_ends(tables, &ids)?;
-            let change = Change::Close { id };
+            let ids = tables.cut_by(id, steps)?;
+            let sent = told_of_ends(tables, &ids, steps)?;
+            let change = TableChange::Close { id };
             Ok(Planned::new(tables, Reply::Done, change, sent))
         }
         Err(why) => Ok(Planned::refused(tables, why)),
@@ -44,41 +51,50 @@ pub fn plan_unshare(tables: &Tables, key: &Secret, user: u32, id: u32) -> Result
 }
 
 /// The end of a share at a moment, by the user of this number, who has this key.
-pub fn plan_expire(tables: &Tables, key: &Secret, user: u32, id: u32, until: u64) -> Planned
+pub fn plan_expire<L: Ledger>(
+    tables: &Tables,
+    key: &Secret,
+    user: u32,
+    id: u32,
+    until: u64,
+    steps: &mut Steps<L>,
+) -> Planned
     requires { user_of_key tables.now.state.users key.now ≡ Some user }
     ensures { Plans tables.now.state (asks.Local key.now (commands.Expire id until)) result }
 {
-    match live_share(tables, user, id) {
-        Ok(_share) => Planned::silent(tables, Reply::Done, Change::Expire { id, until }),
+    match live_share(tables, user, id, steps) {
+        Ok(_share) => Planned::silent(tables, Reply::Done, TableChange::Expire { id, until }),
         Err(why) => Planned::refused(tables, why),
     }
 }
 
 /// Other permissions for a share, by the user of this number, who has this key.
-pub fn plan_limit(
+pub fn plan_limit<L: Ledger>(
     tables: &Tables,
     key: &Secret,
     user: u32,
     id: u32,
     perms: Perms,
+    steps: &mut Steps<L>,
 ) -> Result<Planned, NoMemory>
     requires { user_of_key tables.now.state.users key.now ≡ Some user }
     ensures { IfOk result (λ plan. Plans tables.now.state (asks.Local key.now (commands.Limit id perms)) plan) }
 {
-    match live_share(tables, user, id) {
-        Ok(share) => plan_new_perms(tables, key, user, id, share, perms),
+    match live_share(tables, user, id, steps) {
+        Ok(share) => plan_new_perms(tables, key, user, id, share, perms, steps),
         Err(why) => Ok(Planned::refused(tables, why)),
     }
 }
 
 /// Other permissions for a live share of the user of this number, who has this key.
-fn plan_new_perms(
+fn plan_new_perms<L: Ledger>(
     tables: &Tables,
     key: &Secret,
     user: u32,
     id: u32,
     share: &Share,
     perms: Perms,
+    steps: &mut Steps<L>,
 ) -> Result<Planned, NoMemory>
     requires user { user_of_key tables.now.state.users key.now ≡ Some user }
     requires live { IsLiveShare tables.now.state user id share.now }
@@ -87,13 +103,13 @@ fn plan_new_perms(
     if !perms.within(share.granted.rights()) {
         return Ok(Planned::refused(tables, Why::NotPermitted));
     }
-    let told = tables.told_by_limit(id, perms)?;
+    let told = tables.told_by_limit(id, perms, steps)?;
     if is_full_of_changes(tables, told.len()) {
         let which = Which::Changes;
         return Ok(Planned::refused(tables, Why::Limit { which }));
     }
-    let sent = told_of_changes(tables, &told)?;
-    let change = Change::Limit { id, perms };
+    let sent = told_of_changes(tables, &told, steps)?;
+    let change = TableChange::Limit { id, perms };
     Ok(Planned::new(tables, Reply::Done, change, sent))
 }
 
@@ -112,18 +128,21 @@ fn are_too_many(count: u32, more: usize) -> bool
 }
 
 /// The messages that tell the guests of shares what they may do from now on, by one limit more.
-fn told_of_changes(tables: &Tables, told: &List<Changed>) -> Result<List<Message>, NoMemory>
+fn told_of_changes<L: Ledger>(
+    tables: &Tables,
+    told: &List<Change>,
+    steps: &mut Steps<L>,
+) -> Result<List<Message>, NoMemory>
     requires { tables.now.state.limits < most_restrictions }
     ensures { IfOk result (λ sent. sent ≡ changed_to_guests (view_in tables.now.state).shares (tables.now.state.limits + 1) (map new_perms told.now)) }
 {
-    let alloc = tables.allocator();
-    let told = all_new_perms(alloc, told.as_slice())?;
+    let told = all_new_perms(tables.allocator(), told.as_slice())?;
     let serial = tables.limits() + 1;
-    changed_all(alloc, tables, serial, &told)
+    told_of_perms(tables, serial, &told, steps)
 }
 
 /// What the guest of a share may do from now on.
-fn new_perms(changed: &Changed) -> NewPerms
+fn new_perms(changed: &Change) -> NewPerms
     ensures { result ≡ new_perms changed.now }
 {
     NewPerms {
@@ -133,7 +152,7 @@ fn new_perms(changed: &Changed) -> NewPerms
 }
 
 /// What the guests of these shares may do from now on, in the same order.
-fn all_new_perms(alloc: Global, changed: &[Changed]) -> Result<Vec<NewPerms>, NoMemory>
+fn all_new_perms(alloc: Global, changed: &[Change]) -> Result<Vec<NewPerms>, NoMemory>
     ensures { IfOk result (λ all. all.items ≡ map new_perms changed.now) }
 {
     let mut all = Vec::new(alloc);
@@ -151,7 +170,7 @@ fn is_own_host(tables: &Tables, with: &Address) -> bool
 }
 
 /// A new share, by the user of this number, who has this key.
-pub fn plan_new_share(
+pub fn plan_new_share<L: Ledger>(
     tables: &Tables,
     key: &Secret,
     user: u32,
@@ -159,6 +178,7 @@ pub fn plan_new_share(
     with: &Address,
     perms: Perms,
     fresh: &Fresh,
+    steps: &mut Steps<L>,
 ) -> Result<Planned, NoMemory>
     requires short { IsTrue (is_short path.now) }
     requires user { user_of_key tables.now.state.users key.now ≡ Some user }
@@ -176,14 +196,14 @@ pub fn plan_new_share(
         return Ok(Planned::refused(tables, Why::Limit { which }));
     }
     let secret = fresh.secret(tables.allocator())?;
-    if tables.is_used(&secret) {
+    if tables.is_used(&secret, steps) {
         return Ok(Planned::refused(tables, Why::Collision));
     }
     let owner = user_name(tables, key, user);
     let share = own_share(tables.host(), user, owner, path, with, perms, secret)?;
     let (share, sent) = plan_offered(tables, owner, share)?;
     let number = tables.share_count() + 1;
-    let change = Change::AddShare(share);
+    let change = TableChange::AddShare(share);
     Ok(Planned::new(tables, Reply::Number { number }, change, sent))
 }
 

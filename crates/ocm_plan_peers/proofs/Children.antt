@@ -27,7 +27,7 @@ use Rattle.ocm_rules.specs.Messages.{offered}
 use Rattle.ocm_rules.specs.State.{State, step, view_in}
 use Rattle.ocm_letters.specs.Letters.{offered_from}
 use Rattle.ocm_letters.specs.Rows.{child_share_from}
-use Rattle.ocm_tables.specs.declared.changes.Change.TheVariants as changes
+use Rattle.ocm_tables.specs.declared.changes.TableChange.TheVariants as changes
 use Rattle.ocm_tables.specs.Changes.{FitsShare, changed}
 use Rattle.ocm_rules_steps.proofs.NoticeSteps.{child-step}
 use Rattle.ocm_plan_peers.proofs.ListRows.{row-part}

@@ -7,7 +7,7 @@ use Rattle.ocm_rules.specs.Shares.{named}
 use Rattle.ocm_rules.specs.Views.{cut_by}
 use Rattle.ocm_rules.specs.Messages.{at_end, without}
 use Rattle.ocm_rules.specs.State.{State, step, view_in}
-use Rattle.ocm_tables.specs.declared.changes.Change.TheVariants as changes
+use Rattle.ocm_tables.specs.declared.changes.TableChange.TheVariants as changes
 use Rattle.ocm_tables.specs.Changes.{changed}
 use Rattle.ocm_rules_steps.proofs.NoticeSteps.{declined-step, undone-step}
 

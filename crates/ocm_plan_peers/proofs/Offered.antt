@@ -11,7 +11,7 @@ use Rattle.ocm_rules.specs.Answers.{limited, new_offer_reply, pending_count, unl
 use Rattle.ocm_rules.specs.Offers.{is_known}
 use Rattle.ocm_rules.specs.State.{State, step, view_in}
 use Rattle.ocm_rules.specs.Views.{View}
-use Rattle.ocm_tables.specs.declared.changes.Change.TheVariants as changes
+use Rattle.ocm_tables.specs.declared.changes.TableChange.TheVariants as changes
 use Rattle.ocm_tables.specs.Changes.{changed}
 use Rattle.ocm_rules_steps.proofs.OtherSteps.{offer-step}
 use Rattle.ocm_plan.proofs.Planning.{none-sent, not_full}

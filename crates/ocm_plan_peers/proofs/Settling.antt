@@ -21,7 +21,7 @@ use Rattle.ocm_rules.specs.Requests.{answered_state}
 use Rattle.ocm_rules.specs.Settlements.{is_acceptance, is_success, settles, wants_id}
 use Rattle.ocm_rules.specs.Answers.{settle_reply}
 use Rattle.ocm_rules.specs.State.{State, answered_phase, answered_request, changed_at, is_accepting, is_asked, step, view_in}
-use Rattle.ocm_tables.specs.declared.changes.Change.TheVariants as changes
+use Rattle.ocm_tables.specs.declared.changes.TableChange.TheVariants as changes
 use Rattle.ocm_tables.specs.declared.changes.Outcome.{Outcome}
 use Rattle.ocm_tables.specs.Changes.{IsMessage, acted, changed, with_outcome}
 use Rattle.ocm_tables.specs.Tables.{record_in}

@@ -19,7 +19,7 @@ use Rattle.ocm_rules.specs.State.{State, step, view_in}
 use Rattle.ocm_rules.proofs.Lists.{not_both}
 use Rattle.ocm_rules.proofs.Numbering.{map_numbered-plain}
 use Rattle.ocm_rules.proofs.Searches.{map_numbered-there, at_number-within}
-use Rattle.ocm_tables.specs.declared.changes.Change.TheVariants as changes
+use Rattle.ocm_tables.specs.declared.changes.TableChange.TheVariants as changes
 use Rattle.ocm_tables.specs.Changes.{IsRecord, acted, changed, told_to}
 use Rattle.ocm_rules_steps.proofs.NoticeSteps.{unshared-step, changed-step}
 use Rattle.ocm_rules_steps.proofs.Rows.{none-sent}

@@ -10,7 +10,7 @@ use ocm_base::NoMemory;
 use ocm_entry::{Reply, Why};
 use ocm_incoming::Mark;
 use ocm_plan::Planned;
-use ocm_tables::{Change, Tables};
+use ocm_tables::{TableChange, Tables};
 use ocm_types::{Perms, ProviderId, Secret};
 
 /// A share that was received is shared no more.
@@ -24,7 +24,7 @@ pub fn plan_unshared(tables: &Tables, id: &ProviderId, secret: &Secret) -> Resul
     if !tables.is_held(&mark) {
         return Ok(Planned::only(tables, Reply::Noticed));
     }
-    Ok(Planned::silent(tables, Reply::Noticed, Change::GiveUp(mark)))
+    Ok(Planned::silent(tables, Reply::Noticed, TableChange::GiveUp(mark)))
 }
 
 /// What a guest may do has changed: the records that were told of an earlier change are told of it.
@@ -48,7 +48,7 @@ pub fn plan_changed(
     Ok(Planned::silent(
         tables,
         Reply::Noticed,
-        Change::Tell {
+        TableChange::Tell {
             numbers,
             serial,
             perms,

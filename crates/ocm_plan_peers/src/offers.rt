@@ -13,7 +13,7 @@ use ocm_entry::{AddressField, Reply, Why};
 use ocm_incoming::{PlannedOffer, plan_offer as planned_offer};
 use ocm_limits::{MOST_PENDING, MOST_RECORDS};
 use ocm_plan::{Planned, is_full};
-use ocm_tables::{Change, Tables};
+use ocm_tables::{TableChange, Tables};
 use ocm_types::{Name, Offer, Which};
 
 /// An offer for a user of this server: it becomes one more received offer, unless an equal one was
@@ -118,5 +118,9 @@ fn plan_received(tables: &Tables, offer: &Offer) -> Result<Planned, NoMemory>
 {
     let user = offer.with.user.copy()?;
     let received = planned_offer(offer)?;
-    Ok(Planned::silent(tables, Reply::Recipient { user }, Change::Receive(received)))
+    Ok(Planned::silent(
+        tables,
+        Reply::Recipient { user },
+        TableChange::Receive(received),
+    ))
 }

@@ -11,33 +11,47 @@ ghost use Rattle.ocm_rules.specs.State.{view_in};
 use ocm_base::{List, NoMemory};
 use ocm_entry::{Share, User};
 use ocm_incoming::Mark;
-use ocm_tables::Tables;
+use ocm_tables::{Steps, Tables};
 use ocm_types::{ProviderId, Secret};
+use std::sync::ledger::Ledger;
 
 /// Whether the share that an owner's mark names has a parent with this secret.
-pub fn is_child_of(tables: &Tables, id: &ProviderId, secret: &Secret) -> bool
+pub fn is_child_of<L: Ledger>(
+    tables: &Tables,
+    id: &ProviderId,
+    secret: &Secret,
+    steps: &mut Steps<L>,
+) -> bool
     ensures { result ≡ is_child_of (view_in tables.now.state) id.now secret.now }
 {
-    match parent_of_named(tables, id) {
+    match parent_of_named(tables, id, steps) {
         Some(parent) => parent.secret == *secret,
         None => false,
     }
 }
 
 /// The parent of the share that an owner's mark names.
-fn parent_of_named<'a>(tables: &'a Tables, id: &ProviderId) -> Option<&'a Share>
+fn parent_of_named<'a, L: Ledger>(
+    tables: &'a Tables,
+    id: &ProviderId,
+    steps: &mut Steps<L>,
+) -> Option<&'a Share>
     ensures { option_copied result ≡ option_and_then (parent_row (view_in tables.now.state)) (option_and_then (at_number (view_in tables.now.state).shares) (named id.now)) }
 {
     let number = tables.named_share(id)?;
-    parent_of(tables, number)
+    parent_of(tables, number, steps)
 }
 
 /// The parent of the share of this number.
-fn parent_of(tables: &Tables, number: u32) -> Option<&Share>
+fn parent_of<'a, L: Ledger>(
+    tables: &'a Tables,
+    number: u32,
+    steps: &mut Steps<L>,
+) -> Option<&'a Share>
     ensures { option_copied result ≡ option_and_then (parent_row (view_in tables.now.state)) (at_number (view_in tables.now.state).shares number) }
 {
-    let parent = tables.share(number)?.parent?;
-    tables.share(parent)
+    let parent = tables.share(number, steps)?.parent?;
+    tables.share(parent, steps)
 }
 
 /// The user whose share this is.

@@ -26,11 +26,12 @@ use ocm_letters::{child_share, offered};
 use ocm_limits::MOST_SHARES;
 use ocm_plan::{Planned, is_full, one_message};
 use ocm_rules::Message;
-use ocm_tables::{Change, Tables};
+use ocm_tables::{Steps, TableChange, Tables};
 use ocm_types::{Address, Fresh, Name, Perms, ProviderId, Rights, Secret, SenderId, Which};
+use std::sync::ledger::Ledger;
 
 /// A guest asks that a share be shared further.
-pub fn plan_request(
+pub fn plan_request<L: Ledger>(
     tables: &Tables,
     id: &ProviderId,
     secret: &Secret,
@@ -38,24 +39,31 @@ pub fn plan_request(
     sender_id: &SenderId,
     asked: &Option<Perms>,
     fresh: &Fresh,
+    steps: &mut Steps<L>,
 ) -> Result<Planned, NoMemory>
     ensures { IfOk result (λ plan. Plans tables.now.state (asks.Notice (notices.ReshareRequest id.now secret.now with.now sender_id.now asked.now) fresh.now) plan) }
 {
-    let Some(parent) = tables.share_with(id, secret) else {
+    let Some(parent) = tables.share_with(id, secret, steps) else {
         return Ok(Planned::refused(tables, Why::UnknownShare));
     };
-    match tables.child_for(parent, sender_id) {
-        Some(child) => Ok(plan_repeated(tables, child, with, *asked)),
-        None => plan_first(tables, parent, with, sender_id, asked, fresh),
+    match tables.child_for(parent, sender_id, steps) {
+        Some(child) => Ok(plan_repeated(tables, child, with, *asked, steps)),
+        None => plan_first(tables, parent, with, sender_id, asked, fresh, steps),
     }
 }
 
 /// A request that was made before, where this child was made for it.
-fn plan_repeated(tables: &Tables, child: u32, with: &Address, asked: Option<Perms>) -> Planned
+fn plan_repeated<L: Ledger>(
+    tables: &Tables,
+    child: u32,
+    with: &Address,
+    asked: Option<Perms>,
+    steps: &mut Steps<L>,
+) -> Planned
     ensures { (ask : Ask) → reply_in (view_in tables.now.state) ask ≡ repeated_reply child (at_number (view_in tables.now.state).shares child) with.now asked
         → changes_in (view_in tables.now.state) ask (Reply.Child child) ≡ false → Plans tables.now.state ask result }
 {
-    if is_same_request(tables.share(child), with, asked) {
+    if is_same_request(tables.share(child, steps), with, asked) {
         Planned::only(tables, Reply::Child { id: child })
     } else {
         Planned::refused(tables, Why::SenderIdReused)
@@ -96,32 +104,38 @@ fn granted_within(rights: Rights, asked: &Option<Perms>) -> Option<Perms>
 }
 
 /// A request that is made for the first time, by the guest of the share of this number.
-fn plan_first(
+fn plan_first<L: Ledger>(
     tables: &Tables,
     parent: u32,
     with: &Address,
     sender_id: &SenderId,
     asked: &Option<Perms>,
     fresh: &Fresh,
+    steps: &mut Steps<L>,
 ) -> Result<Planned, NoMemory>
     requires { IsSome (at_number (view_in tables.now.state).shares parent) }
     ensures { (id mark : List ℕ) → let ask : Ask = asks.Notice (notices.ReshareRequest id mark with.now sender_id.now asked.now) fresh.now in
         named id ≡ Some parent → reply_in (view_in tables.now.state) ask ≡ first_reply (view_in tables.now.state) parent with.now asked.now (hex fresh.now)
         → IfOk result (λ plan. Plans tables.now.state ask plan) }
 {
-    match granted_to(tables, parent, with, asked) {
-        Ok(granted) => plan_granted(tables, parent, &granted, with, sender_id, asked, fresh),
+    match granted_to(tables, parent, with, asked, steps) {
+        Ok(granted) => {
+            plan_granted(
+                tables, parent, &granted, with, sender_id, asked, fresh, steps,
+            )
+        }
         Err(why) => Ok(Planned::refused(tables, why)),
     }
 }
 
 /// What a child of the share of this number grants to this guest, or what stands against the child,
 /// whatever is drawn for it.
-fn granted_to(
+fn granted_to<L: Ledger>(
     tables: &Tables,
     parent: u32,
     with: &Address,
     asked: &Option<Perms>,
+    steps: &mut Steps<L>,
 ) -> Result<Perms, Why>
     requires { IsSome (at_number (view_in tables.now.state).shares parent) }
     ensures refused { IfErr result (λ why. (secret : List ℕ) → refused why ≡ first_reply (view_in tables.now.state) parent with.now asked.now secret) }
@@ -130,10 +144,10 @@ fn granted_to(
     ensures free { OnOk result ((secret : List ℕ) → (if is_used tables.now.state.users (view_in tables.now.state).shares secret then refused Collision else Reply.Child (length tables.now.state.shares + 1))
         ≡ first_reply (view_in tables.now.state) parent with.now asked.now secret) }
 {
-    if !tables.is_live(parent) {
+    if !tables.is_live(parent, steps) {
         return Err(Why::ShareClosed);
     }
-    let Some(granted) = granted_within(tables.effective(parent), asked) else {
+    let Some(granted) = granted_within(tables.effective(parent, steps), asked) else {
         return Err(Why::NotPermitted);
     };
     if with.host == *tables.host() {
@@ -148,7 +162,7 @@ fn granted_to(
 }
 
 /// A child of the share of this number that grants this, where the drawn bytes spell a new secret.
-fn plan_granted(
+fn plan_granted<L: Ledger>(
     tables: &Tables,
     parent: u32,
     granted: &Perms,
@@ -156,6 +170,7 @@ fn plan_granted(
     sender_id: &SenderId,
     asked: &Option<Perms>,
     fresh: &Fresh,
+    steps: &mut Steps<L>,
 ) -> Result<Planned, NoMemory>
     requires parent { IsSome (at_number (view_in tables.now.state).shares parent) }
     requires few { length tables.now.state.shares < most_shares }
@@ -165,14 +180,16 @@ fn plan_granted(
         → IfOk result (λ plan. Plans tables.now.state ask plan) }
 {
     let secret = fresh.secret(tables.allocator())?;
-    if tables.is_used(&secret) {
+    if tables.is_used(&secret, steps) {
         return Ok(Planned::refused(tables, Why::Collision));
     }
-    plan_child(tables, parent, granted, with, sender_id, *asked, secret)
+    plan_child(
+        tables, parent, granted, with, sender_id, *asked, secret, steps,
+    )
 }
 
 /// A child of the share of this number, which nothing stands against.
-fn plan_child(
+fn plan_child<L: Ledger>(
     tables: &Tables,
     parent: u32,
     granted: &Perms,
@@ -180,6 +197,7 @@ fn plan_child(
     sender_id: &SenderId,
     asked: Option<Perms>,
     secret: Secret,
+    steps: &mut Steps<L>,
 ) -> Result<Planned, NoMemory>
     requires parent { IsSome (at_number (view_in tables.now.state).shares parent) }
     requires few { length tables.now.state.shares < most_shares }
@@ -188,12 +206,17 @@ fn plan_child(
         named id ≡ Some parent → secret ≡ hex fresh → granted.now ≡ unwrap_or asked (effective_in (view_in tables.now.state) parent)
         → reply_in (view_in tables.now.state) ask ≡ Reply.Child (length tables.now.state.shares + 1) → IfOk result (λ plan. Plans tables.now.state ask plan) }
 {
-    let above = tables.share(parent).unwrap();
+    let above = tables.share(parent, steps).unwrap();
     let owner = owner_of(tables, above);
     let share = child_share(parent, above, *granted, with, sender_id, asked, secret)?;
     let (share, sent) = offered_share(tables, &owner.name, share)?;
     let id = tables.share_count() + 1;
-    Ok(Planned::new(tables, Reply::Child { id }, Change::AddShare(share), sent))
+    Ok(Planned::new(
+        tables,
+        Reply::Child { id },
+        TableChange::AddShare(share),
+        sent,
+    ))
 }
 
 /// A new share, whose owner has this name, with the message that offers it.

@@ -20,7 +20,7 @@ use ocm_entry::{Reply, Why};
 use ocm_letters::{is_acceptance, is_success, wants_id};
 use ocm_plan::Planned;
 use ocm_rules::Subject;
-use ocm_tables::{Change, Outcome, Tables};
+use ocm_tables::{Outcome, TableChange, Tables};
 use ocm_types::{Letter, Phase, ProviderId, RequestPhase};
 
 /// Which messages are due.
@@ -50,7 +50,7 @@ pub fn plan_settle(
         return Ok(Planned::only(tables, Reply::Left));
     }
     let outcome = outcome_of(tables, number, &message.letter, status, id)?;
-    Ok(Planned::silent(tables, Reply::Done, Change::Settle { number, outcome }))
+    Ok(Planned::silent(tables, Reply::Done, TableChange::Settle { number, outcome }))
 }
 
 /// What the answer to the message of this number, which has this letter, does besides settling it.

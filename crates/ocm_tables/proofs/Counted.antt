@@ -9,8 +9,8 @@ use Rattle.ocm_rules.specs.Files.{Act, Placed, Gone, Carried, same_place, is_at_
 use Rattle.ocm_rules.specs.State.{node_at}
 use Rattle.ocm_rules.proofs.Places.{same_place-refl}
 use Rattle.ocm_rules.proofs.Nodes.{node_at-with_node}
-use Rattle.ocm_tables.specs.declared.changes.Change.{Change}
-use Rattle.ocm_tables.specs.declared.changes.Change.TheVariants as changes
+use Rattle.ocm_tables.specs.declared.changes.TableChange.{TableChange}
+use Rattle.ocm_tables.specs.declared.changes.TableChange.TheVariants as changes
 use Rattle.ocm_tables.specs.Changes.{entries_after, file_act, is_kept}
 use Rattle.ocm_law_origins.specs.Origins.{Origin, with_origin, copied, origin_stays, origins_after, put_of, body_from}
 
@@ -109,12 +109,12 @@ own-number act number next standing h = by_test (nat_eq number next) refl h
     by_test false e g = absurd (some-none standing g)
 
 -- a change that puts something is kept
-kept-put : (change : Change) (standing : Standing) → put_of (file_act change) ≡ Some standing → is_kept change ≡ true
+kept-put : (change : TableChange) (standing : Standing) → put_of (file_act change) ≡ Some standing → is_kept change ≡ true
 kept-put changes.Nothing standing h = absurd (some-none standing h)
 kept-put change standing h = refl
 
 -- what is put by the next change stands by it, where the count still rises
-pub next-standing : (change : Change) (number entries : ℕ) (standing : Standing) (nodes : List Node) (os : List Origin) → AreMade entries os → entries < 18446744073709551615 →
+pub next-standing : (change : TableChange) (number entries : ℕ) (standing : Standing) (nodes : List Node) (os : List Origin) → AreMade entries os → entries < 18446744073709551615 →
     number ≡ entries_after entries change → put_of (file_act change) ≡ Some standing → Some standing ≡ body_from (nodes_after (file_act change) nodes) (origins_after (file_act change) (entries_after entries change) os) number
 next-standing change number entries standing nodes os made few is put =
     let kept = kept-put change standing put in
@@ -124,7 +124,7 @@ next-standing change number entries standing nodes os made few is put =
     ∙ ap (body_from (nodes_after (file_act change) nodes) (origins_after (file_act change) (entries_after entries change) os)) (sym is)
 
 -- the count does not fall
-pub counts-up : (entries : ℕ) (change : Change) → entries < 2 ^ 64 → entries ≤ entries_after entries change
+pub counts-up : (entries : ℕ) (change : TableChange) → entries < 2 ^ 64 → entries ≤ entries_after entries change
 counts-up entries change fits = by_test (is_kept change)
   where
     by_test : (b : Bool) → entries ≤ (if b then min (entries + 1) 18446744073709551615 else entries)

@@ -2,8 +2,8 @@ use Rattle.std.proofs.Common.{◌≡◌, ℕ, ◌+◌, ◌≤◌, List, length, 
 use Rattle.ocm_rules.specs.declared.rows.Message.{Message}
 use Rattle.ocm_rules.specs.declared.rows.SentRow.{SentRow}
 use Rattle.ocm_rules.specs.State.{State, changed_at}
-use Rattle.ocm_tables.specs.declared.changes.Change.{Change}
-use Rattle.ocm_tables.specs.declared.changes.Change.TheVariants as changes
+use Rattle.ocm_tables.specs.declared.changes.TableChange.{TableChange}
+use Rattle.ocm_tables.specs.declared.changes.TableChange.TheVariants as changes
 use Rattle.ocm_tables.specs.declared.changes.Outcome.{Outcome}
 use Rattle.ocm_tables.specs.declared.changes.Outcome.TheVariants as outcomes
 use Rattle.ocm_tables.specs.Changes.{HasNumbers, acted, with_outcome}
@@ -15,7 +15,7 @@ outcome-sent st (outcomes.SetPhase number phase) = refl
 outcome-sent st (outcomes.SetState request state) = refl
 
 -- a change adds no message
-pub acted-sent : (st : State) (change : Change) → length (acted st change).sent ≡ length st.sent
+pub acted-sent : (st : State) (change : TableChange) → length (acted st change).sent ≡ length st.sent
 acted-sent st changes.Nothing = refl
 acted-sent st (changes.Advance clock) = refl
 acted-sent st (changes.AddUser user) = refl
@@ -37,5 +37,5 @@ acted-sent st (changes.Settle number outcome) =
     outcome-sent settled outcome ∙ changed_at-length number (λ (row : SentRow). record row { settled = true }) st.sent
 
 -- so there are numbers left as before it
-pub numbers-after : (st : State) (change : Change) (messages : List Message) → HasNumbers st messages → HasNumbers (acted st change) messages
+pub numbers-after : (st : State) (change : TableChange) (messages : List Message) → HasNumbers st messages → HasNumbers (acted st change) messages
 numbers-after st change messages few = let P : ℕ → Type 0 = λ n. n + length messages ≤ 1048576 in subst P (sym (acted-sent st change)) few

@@ -18,8 +18,8 @@ use Rattle.ocm_rules.specs.Files.{Act, Carried, Gone, Placed, copies, limit_of, 
 use Rattle.ocm_rules.specs.Offers.{is_given_up, is_of}
 use Rattle.ocm_rules.specs.State.{State, changed_at, map_numbered, new_received_row, new_sent_row, new_share_row, node_at, view_in}
 use Rattle.ocm_tables.specs.Tables.{Rooms}
-use Rattle.ocm_tables.specs.declared.changes.Change.{Change}
-use Rattle.ocm_tables.specs.declared.changes.Change.TheVariants as changes
+use Rattle.ocm_tables.specs.declared.changes.TableChange.{TableChange}
+use Rattle.ocm_tables.specs.declared.changes.TableChange.TheVariants as changes
 use Rattle.ocm_tables.specs.declared.changes.Outcome.{Outcome}
 use Rattle.ocm_tables.specs.declared.changes.Outcome.TheVariants as outcomes
 
@@ -38,7 +38,7 @@ abbrev pub told_to : List ℕ → Told → List ReceivedRow → List ReceivedRow
 told_to numbers told rows = map_numbered (λ n (row : ReceivedRow). if list_any (nat_eq n) numbers then record row { told = told } else row) 1 rows
 
 -- the lists once a change is made, its messages aside
-abbrev pub acted : State → Change → State
+abbrev pub acted : State → TableChange → State
 acted st changes.Nothing = st
 acted st (changes.Advance clock) = record st { moment = clock }
 acted st (changes.AddUser user) = record st { users = st.users ++ user ∷ [] }
@@ -63,23 +63,23 @@ abbrev pub with_sent : State → List Message → State
 with_sent st messages = record st { sent = st.sent ++ map new_sent_row messages }
 
 -- the lists once a change is made and its messages are sent
-abbrev pub changed : State → Change → List Message → State
+abbrev pub changed : State → TableChange → List Message → State
 changed st change messages = with_sent (acted st change) messages
 
 -- whether a change changes something
-abbrev pub is_kept : Change → Bool
+abbrev pub is_kept : TableChange → Bool
 is_kept changes.Nothing = false
 is_kept change = true
 
 -- what a change does to files
-abbrev pub file_act : Change → Option Act
+abbrev pub file_act : TableChange → Option Act
 file_act (changes.Put node) = Some (Placed node.place node.standing)
 file_act (changes.Remove place) = Some (Gone place)
 file_act (changes.Carry carry) = Some (Carried carry.from carry.to carry.moving)
 file_act change = None
 
 -- how many changes there were once one is made; the count stands still at the largest number
-abbrev pub entries_after : ℕ → Change → ℕ
+abbrev pub entries_after : ℕ → TableChange → ℕ
 entries_after entries change = if is_kept change then min (entries + 1) 18446744073709551615 else entries
 
 -- ---- what a change has to keep to
@@ -122,7 +122,7 @@ FitsOutcome st (outcomes.SetPhase number phase) = IsRecord st number
 FitsOutcome st (outcomes.SetState request state) = IsRequest st request
 
 -- a change keeps to the rules
-abbrev pub Fits : State → Change → Type 0
+abbrev pub Fits : State → TableChange → Type 0
 Fits st changes.Nothing = Unit {0}
 Fits st (changes.Advance clock) = st.moment ≤ clock
 Fits st (changes.AddUser user) = FitsUser st user
@@ -149,7 +149,7 @@ HasNumbers st messages = length st.sent + length messages ≤ most_messages
 -- ---- room
 
 -- there is room for a change
-abbrev pub HasRoom : Rooms → Change → Type 0
+abbrev pub HasRoom : Rooms → TableChange → Type 0
 HasRoom room (changes.AddUser user) = 0 < room.users
 HasRoom room (changes.Put node) = 0 < room.files
 HasRoom room (changes.Carry carry) = length carry.nodes ≤ room.files

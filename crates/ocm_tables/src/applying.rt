@@ -6,10 +6,10 @@ ghost use Rattle.ocm_rules.specs.Files.{limit_of};
 ghost use Rattle.ocm_rules.specs.State.{new_sent_row};
 ghost use Rattle.ocm_law_origins.specs.Origins.{origins_after};
 ghost use Rattle.ocm_tables.specs.Changes.{Fits, FitsOutcome, FitsRequest, FitsShare, FitsUser, HasNumbers, HasRoom, IsMessage, IsRecord, IsRequest, IsShare, acted, changed, entries_after, file_act, told_all, with_outcome, with_sent};
-ghost use Rattle.ocm_tables.specs.declared.changes.Change.TheVariants as changes;
+ghost use Rattle.ocm_tables.specs.declared.changes.TableChange.TheVariants as changes;
 ghost use Rattle.ocm_tables.specs.declared.changes.Outcome.TheVariants as outcomes;
 
-use crate::changes::{Change, Outcome};
+use crate::changes::{Outcome, TableChange};
 use crate::tables::Tables;
 use ocm_base::{List, NoMemory};
 use ocm_chain::PlannedShare;
@@ -24,7 +24,7 @@ use ocm_users::PlannedUser;
 
 impl Tables {
     /// Takes the memory that a change and so many messages need. The lists stay.
-    pub fn room(&mut self, change: &Change, messages: u32) -> Result<(), NoMemory>
+    pub fn room(&mut self, change: &TableChange, messages: u32) -> Result<(), NoMemory>
         ensures state { self.new.state ≡ self.old.state }
         ensures entries { self.new.entries ≡ self.old.entries }
         ensures origins { self.new.origins ≡ self.old.origins }
@@ -36,7 +36,7 @@ impl Tables {
     }
 
     /// Takes the memory that a change needs in its table. The lists stay.
-    fn room_for(&mut self, change: &Change) -> Result<(), NoMemory>
+    fn room_for(&mut self, change: &TableChange) -> Result<(), NoMemory>
         ensures state { self.new.state ≡ self.old.state }
         ensures entries { self.new.entries ≡ self.old.entries }
         ensures origins { self.new.origins ≡ self.old.origins }
@@ -44,30 +44,30 @@ impl Tables {
         ensures messages { self.old.room.messages ≤ self.new.room.messages }
     {
         match change {
-            Change::AddUser(_) => self.users.room(),
-            Change::Put(_) => self.files.room(),
-            Change::Carry(carry) => self.files.room_for(carry),
-            Change::AddShare(_) => self.shares.room(),
-            Change::Receive(_) => self.room_to_receive(),
-            Change::AddRequest(_) => self.inbox.room(),
-            Change::Nothing
-            | Change::Advance { clock: _ }
-            | Change::Remove(_)
-            | Change::Close { id: _ }
-            | Change::Limit { id: _, perms: _ }
-            | Change::Expire { id: _, until: _ }
-            | Change::SetPhase {
+            TableChange::AddUser(_) => self.users.room(),
+            TableChange::Put(_) => self.files.room(),
+            TableChange::Carry(carry) => self.files.room_for(carry),
+            TableChange::AddShare(_) => self.shares.room(),
+            TableChange::Receive(_) => self.room_to_receive(),
+            TableChange::AddRequest(_) => self.inbox.room(),
+            TableChange::Nothing
+            | TableChange::Advance { clock: _ }
+            | TableChange::Remove(_)
+            | TableChange::Close { id: _ }
+            | TableChange::Limit { id: _, perms: _ }
+            | TableChange::Expire { id: _, until: _ }
+            | TableChange::SetPhase {
                 number: _,
                 phase: _,
             }
-            | Change::TakeBack { request: _ }
-            | Change::GiveUp(_)
-            | Change::Tell {
+            | TableChange::TakeBack { request: _ }
+            | TableChange::GiveUp(_)
+            | TableChange::Tell {
                 numbers: _,
                 serial: _,
                 perms: _,
             }
-            | Change::Settle {
+            | TableChange::Settle {
                 number: _,
                 outcome: _,
             } => Ok(()),
@@ -87,7 +87,7 @@ impl Tables {
     }
 
     /// Makes a change and sends its messages. It takes no memory.
-    pub fn apply(&mut self, change: Change, messages: List<Message>)
+    pub fn apply(&mut self, change: TableChange, messages: List<Message>)
         requires fits { Fits self.old.state change }
         requires numbers { HasNumbers self.old.state messages }
         requires room { HasRoom self.old.room change }
@@ -102,7 +102,7 @@ impl Tables {
     }
 
     /// Counts a change.
-    fn count(&mut self, change: &Change)
+    fn count(&mut self, change: &TableChange)
         ensures state { self.new.state ≡ self.old.state }
         ensures room { self.new.room ≡ self.old.room }
         ensures entries { self.new.entries ≡ entries_after self.old.entries change.now }
@@ -112,7 +112,7 @@ impl Tables {
     }
 
     /// Makes a change that was counted, its messages aside.
-    fn act(&mut self, change: Change)
+    fn act(&mut self, change: TableChange)
         requires fits { Fits self.old.state change }
         requires room { HasRoom self.old.room change }
         ensures state { self.new.state ≡ acted self.old.state change }
@@ -121,27 +121,27 @@ impl Tables {
         ensures messages { self.old.room.messages ≤ self.new.room.messages }
     {
         match change {
-            Change::Nothing => {}
-            Change::Advance { clock } => self.shares.advance(clock),
-            Change::AddUser(user) => self.add_user(user),
-            Change::Put(node) => self.put(node),
-            Change::Remove(place) => self.remove(&place),
-            Change::Carry(carry) => self.carry(carry),
-            Change::AddShare(share) => self.add_share(share),
-            Change::Close { id } => self.close(id),
-            Change::Limit { id, perms } => self.limit(id, perms),
-            Change::Expire { id, until } => self.expire(id, until),
-            Change::Receive(offer) => self.receive(offer),
-            Change::SetPhase { number, phase } => self.set_phase(number, phase),
-            Change::AddRequest(request) => self.add_request(request),
-            Change::TakeBack { request } => self.set_state(request, RequestPhase::Undone),
-            Change::GiveUp(mark) => self.give_up(&mark),
-            Change::Tell {
+            TableChange::Nothing => {}
+            TableChange::Advance { clock } => self.shares.advance(clock),
+            TableChange::AddUser(user) => self.add_user(user),
+            TableChange::Put(node) => self.put(node),
+            TableChange::Remove(place) => self.remove(&place),
+            TableChange::Carry(carry) => self.carry(carry),
+            TableChange::AddShare(share) => self.add_share(share),
+            TableChange::Close { id } => self.close(id),
+            TableChange::Limit { id, perms } => self.limit(id, perms),
+            TableChange::Expire { id, until } => self.expire(id, until),
+            TableChange::Receive(offer) => self.receive(offer),
+            TableChange::SetPhase { number, phase } => self.set_phase(number, phase),
+            TableChange::AddRequest(request) => self.add_request(request),
+            TableChange::TakeBack { request } => self.set_state(request, RequestPhase::Undone),
+            TableChange::GiveUp(mark) => self.give_up(&mark),
+            TableChange::Tell {
                 numbers,
                 serial,
                 perms,
             } => self.tell(&numbers, serial, perms),
-            Change::Settle { number, outcome } => self.settle(number, outcome),
+            TableChange::Settle { number, outcome } => self.settle(number, outcome),
         }
     }
 
@@ -244,6 +244,7 @@ impl Tables {
         self.board.add(perms);
     }
 
+    /// Sets the phase of the received offer of this number.
     pub(crate) fn set_phase(&mut self, number: u32, phase: Phase)
         requires { IsRecord self.old.state number }
         ensures state { self.new.state ≡ acted self.old.state (changes.SetPhase number phase) }
@@ -265,6 +266,7 @@ impl Tables {
         let _number = self.inbox.ask(request);
     }
 
+    /// Sets the state of the request of this number.
     pub(crate) fn set_state(&mut self, request: u32, state: RequestPhase)
         requires { IsRequest self.old.state request }
         ensures state { self.new.state ≡ with_outcome self.old.state (outcomes.SetState request state) }

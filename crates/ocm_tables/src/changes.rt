@@ -56,7 +56,7 @@ impl Outcome {
 /// What an ask changes in the tables, its messages aside. All memory that a change holds was taken when
 /// it was planned.
 #[derive(Drop)]
-pub enum Change {
+pub enum TableChange {
     /// Nothing.
     Nothing,
     /// The moment moves on to this one, in seconds.
@@ -115,7 +115,7 @@ pub enum Change {
     },
 }
 
-impl Change {
+impl TableChange {
     ghost use Rattle.std.specs.Prelude.{◌≡◌, option_copied};
     ghost use Rattle.ocm_tree.specs.Changes.{act_of};
     ghost use Rattle.ocm_tables.specs.Changes.{file_act, is_kept};
@@ -125,7 +125,7 @@ impl Change {
     pub(crate) fn is_kept(&self) -> bool
         ensures { result ≡ is_kept self.now }
     {
-        !matches!(self, Change::Nothing)
+        !matches!(self, TableChange::Nothing)
     }
 
     /// What it does to files.
@@ -133,37 +133,37 @@ impl Change {
         ensures { act_of result ≡ file_act self.now }
     {
         match self {
-            Change::Put(node) => FileChange::Put {
+            TableChange::Put(node) => FileChange::Put {
                 place: node.place(),
                 standing: node.standing(),
             },
-            Change::Remove(place) => FileChange::Remove { place },
-            Change::Carry(carry) => FileChange::Carry {
+            TableChange::Remove(place) => FileChange::Remove { place },
+            TableChange::Carry(carry) => FileChange::Carry {
                 from: carry.from(),
                 to: carry.to(),
                 moving: carry.is_moving(),
             },
-            Change::Nothing
-            | Change::Advance { clock: _ }
-            | Change::AddUser(_)
-            | Change::AddShare(_)
-            | Change::Close { id: _ }
-            | Change::Limit { id: _, perms: _ }
-            | Change::Expire { id: _, until: _ }
-            | Change::Receive(_)
-            | Change::SetPhase {
+            TableChange::Nothing
+            | TableChange::Advance { clock: _ }
+            | TableChange::AddUser(_)
+            | TableChange::AddShare(_)
+            | TableChange::Close { id: _ }
+            | TableChange::Limit { id: _, perms: _ }
+            | TableChange::Expire { id: _, until: _ }
+            | TableChange::Receive(_)
+            | TableChange::SetPhase {
                 number: _,
                 phase: _,
             }
-            | Change::AddRequest(_)
-            | Change::TakeBack { request: _ }
-            | Change::GiveUp(_)
-            | Change::Tell {
+            | TableChange::AddRequest(_)
+            | TableChange::TakeBack { request: _ }
+            | TableChange::GiveUp(_)
+            | TableChange::Tell {
                 numbers: _,
                 serial: _,
                 perms: _,
             }
-            | Change::Settle {
+            | TableChange::Settle {
                 number: _,
                 outcome: _,
             } => FileChange::Nothing,

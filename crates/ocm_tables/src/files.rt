@@ -7,7 +7,7 @@ ghost use Rattle.ocm_rules.specs.State.{view_in};
 ghost use Rattle.ocm_law_origins.specs.Origins.{body_from, origins_after, put_of};
 ghost use Rattle.ocm_tables.specs.Changes.{entries_after, file_act};
 
-use crate::changes::Change;
+use crate::changes::TableChange;
 use crate::tables::Tables;
 use ocm_base::Bytes;
 use ocm_entry::{Place, Standing};
@@ -55,7 +55,7 @@ impl Tables {
 
     /// What the change of this number put, where it still stands once this change is made, which is the
     /// next one. None where nothing stands by it then.
-    pub fn standing_by<'a>(&'a self, number: u64, change: &'a Change) -> Option<&'a Standing>
+    pub fn standing_by<'a>(&'a self, number: u64, change: &'a TableChange) -> Option<&'a Standing>
         ensures earlier { number ≢ entries_after self.now.entries change.now → option_copied result
             ≡ body_from (nodes_after (file_act change.now) self.now.state.nodes) (origins_after (file_act change.now) (entries_after self.now.entries change.now) self.now.origins) number }
         // At the largest number the count stands still, so that more than one change may have it.
@@ -69,7 +69,7 @@ impl Tables {
     }
 
     /// What a change puts, where this is its number.
-    fn own_standing<'a>(&self, number: u64, change: &'a Change) -> Option<&'a Standing>
+    fn own_standing<'a>(&self, number: u64, change: &'a TableChange) -> Option<&'a Standing>
         ensures { option_copied result ≡ (if nat_eq number (entries_after self.now.entries change.now) then put_of (file_act change.now) else None) }
     {
         if number == self.entries_after(change) {
@@ -80,7 +80,7 @@ impl Tables {
     }
 
     /// How many changes there are once this one is made.
-    pub(crate) fn entries_after(&self, change: &Change) -> u64
+    pub(crate) fn entries_after(&self, change: &TableChange) -> u64
         ensures { result ≡ entries_after self.now.entries change.now }
     {
         if change.is_kept() {

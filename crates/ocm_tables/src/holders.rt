@@ -1,5 +1,5 @@
 //! Users, and who holds a secret.
-ghost use Rattle.std.specs.Prelude.{◌≡◌, ◌≤◌, [], length, IfOk, IfSome, IsSome, IsTrue, option_copied};
+ghost use Rattle.std.specs.Prelude.{◌≡◌, ◌≤◌, ◌+◌, ◌*◌, ◌^◌, ◌-◌, [], length, IfOk, IfSome, IsSome, IsTrue, option_copied};
 ghost use Rattle.ocm_limits.specs.Limits.{most_users};
 ghost use Rattle.ocm_types.specs.Rights.{all_rights};
 ghost use Rattle.ocm_entry.specs.Proper.{is_short};
@@ -12,7 +12,7 @@ ghost use Rattle.ocm_tables.specs.Tables.{GrantCost};
 
 use crate::tables::Tables;
 use ocm_base::NoMemory;
-use ocm_chain::Probes;
+use ocm_chain::{Probes, Steps};
 use ocm_entry::{Grant, Place, Share, User};
 use ocm_path::Path;
 use ocm_types::{Name, Rights, Secret};
@@ -50,12 +50,15 @@ impl Tables {
         self.users.with_key(key)
     }
 
-    /// Whether a secret is the key of a user or the secret of a share.
+    /// Whether a secret is the key of a user or the secret of a share. It takes b steps at most, where 2
+    /// to the power of b is at most one more than twice the shares.
     #[tactic(auto, using(crate::proofs::Numbering::used_found))]
-    pub fn is_used(&self, secret: &Secret) -> bool
-        ensures { result ≡ is_used self.now.state.users (view_in self.now.state).shares secret.now }
+    pub fn is_used<L: Ledger>(&self, secret: &Secret, steps: &mut Steps<L>) -> bool
+        ensures used { result ≡ is_used self.now.state.users (view_in self.now.state).shares secret.now }
+        ensures cost { 2 ^ (steps.new - steps.old) ≤ 2 * length self.now.state.shares + 1 }
+        ensures onward { steps.old ≤ steps.new }
     {
-        self.users.with_key(secret).is_some() || self.shares.find(secret).is_some()
+        self.users.with_key(secret).is_some() || self.shares.find(secret, steps).is_some()
     }
 
     /// What the holder of a secret may do: a user everything below the user's root, the guest of a
@@ -73,7 +76,7 @@ impl Tables {
         if let Some(user) = self.users.with_key(secret) {
             return Ok(Some(account_grant(self.alloc, user)));
         }
-        match self.shares.guest_counted(secret, probes) {
+        match self.shares.guest(secret, probes) {
             Some((share, rights)) => Ok(Some(guest_grant(share, rights)?)),
             None => Ok(None),
         }

@@ -2,7 +2,7 @@
 //! a table of its own.
 //!
 //! [`Tables`] reads them by the words of the rules, for callers that plan a reply, and makes a
-//! [`Change`] in them. Contracts see the lists of the rules, and for how many more rows there is room.
+//! [`TableChange`] in them. Contracts see the lists of the rules, and for how many more rows there is room.
 //! [`Tables::room`] takes the memory that a change needs, and [`Tables::apply`] takes none.
 #![tactic(auto)]
 
@@ -15,6 +15,6 @@ mod messages;
 mod shares;
 mod tables;
 
-pub use changes::{Change, Outcome};
-pub use ocm_chain::Probes;
+pub use changes::{Outcome, TableChange};
+pub use ocm_chain::{Probes, Steps};
 pub use tables::Tables;

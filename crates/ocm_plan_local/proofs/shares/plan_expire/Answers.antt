@@ -9,7 +9,7 @@ use Rattle.ocm_plan_local.proofs.Makes.{expire-makes}
 use Rattle.ocm_plan_local.proofs.shares.plan_expire.Goals as goal
 
 pub returns-in-Ok : goal.returns-in-Ok
-returns-in-Ok c =
+returns-in-Ok g c =
     let st = c.args.tables.now.state in
     let own = c.in-Ok.ensures.ok in
     c.silent.ensures.plans _
@@ -19,4 +19,4 @@ returns-in-Ok c =
     own.there refl
 
 pub returns-in-Err : goal.returns-in-Err
-returns-in-Err c = c.refused.ensures.plans _ (answered c.args.tables.now.state c.args.key.now (commands.Expire c.args.id c.args.until) (Some c.args.user) (refused c.in-Err.why) c.requires c.in-Err.ensures.err)
+returns-in-Err g c = c.refused.ensures.plans _ (answered c.args.tables.now.state c.args.key.now (commands.Expire c.args.id c.args.until) (Some c.args.user) (refused c.in-Err.why) c.requires c.in-Err.ensures.err)

@@ -8,7 +8,7 @@ use Rattle.ocm_plan_local.proofs.LocalReplies.{answered, limit-refused}
 use Rattle.ocm_plan_local.proofs.shares.plan_limit.Goals as goal
 
 pub returns-in-Err : goal.returns-in-Err
-returns-in-Err c =
+returns-in-Err g c =
     let v = view_in c.args.tables.now.state in
     c.refused.ensures.plans _
     (answered c.args.tables.now.state c.args.key.now (commands.Limit c.args.id c.args.perms) (Some c.args.user) (refused c.in-Err.why) c.requires

@@ -22,7 +22,7 @@ count-is : (st : State) (count : ℕ) → count ≡ length st.shares → length 
 count-is st count e = length-map st.shares (λ (row : ShareRow). row.share) ∙ sym e
 
 pub returns-then-is_own_host : goal.returns-then-is_own_host
-returns-then-is_own_host c =
+returns-then-is_own_host g c =
     let st = c.args.tables.now.state in
     let v = view_in st in
     let own : same_text c.args.with.now.host st.host ≡ true = sym c.is_own_host.ensures ∙ c.if-is_own_host.true in
@@ -31,7 +31,7 @@ returns-then-is_own_host c =
     (share-own_host (same_text c.args.with.now.host st.host) (v.stands (record { user = c.args.user; path = c.args.path.now })) (length v.shares) (is_used st.users v.shares (hex c.args.fresh.now)) own))
 
 pub returns-then-not-branch : goal.returns-then-not-branch
-returns-then-not-branch c =
+returns-then-not-branch g c =
     let st = c.args.tables.now.state in
     let v = view_in st in
     let own : same_text c.args.with.now.host st.host ≡ false = sym c.is_own_host.ensures ∙ c.if-is_own_host.false in
@@ -41,7 +41,7 @@ returns-then-not-branch c =
     (share-nothing (same_text c.args.with.now.host st.host) (v.stands (record { user = c.args.user; path = c.args.path.now })) (length v.shares) (is_used st.users v.shares (hex c.args.fresh.now)) own nothing))
 
 pub returns-then-is_full : goal.returns-then-is_full
-returns-then-is_full c =
+returns-then-is_full g c =
     let st = c.args.tables.now.state in
     let v = view_in st in
     let own : same_text c.args.with.now.host st.host ≡ false = sym c.is_own_host.ensures ∙ c.if-is_own_host.false in
@@ -52,19 +52,19 @@ returns-then-is_full c =
     (share-full (same_text c.args.with.now.host st.host) (v.stands (record { user = c.args.user; path = c.args.path.now })) (length v.shares) (is_used st.users v.shares (hex c.args.fresh.now)) own stands full))
 
 pub returns-then-is_used : goal.returns-then-is_used
-returns-then-is_used c =
+returns-then-is_used g c =
     let st = c.args.tables.now.state in
     let v = view_in st in
     let own : same_text c.args.with.now.host st.host ≡ false = sym c.is_own_host.ensures ∙ c.if-is_own_host.false in
     let stands : is_some (v.stands (record { user = c.args.user; path = c.args.path.now })) ≡ true = sym c.in_ok-stands.ensures ∙ c.if-not-branch.false in
     let few : nat_lt 65536 (length v.shares + 1) ≡ false = ap (λ n. nat_lt 65536 (n + 1)) (count-is st c.share_count.result c.share_count.ensures) ∙ (sym c.is_full.ensures ∙ c.if-is_full.false) in
-    let used : is_used st.users v.shares (hex c.args.fresh.now) ≡ true = ap (λ secret. is_used st.users v.shares secret) (sym c.in_ok-secret.ensures.text) ∙ (sym c.is_used.ensures ∙ c.if-is_used.true) in
+    let used : is_used st.users v.shares (hex c.args.fresh.now) ≡ true = ap (λ secret. is_used st.users v.shares secret) (sym c.in_ok-secret.ensures.text) ∙ (sym c.is_used.ensures.used ∙ c.if-is_used.true) in
     c.refused-then-is_used.ensures.plans _
     (answered st c.args.key.now (commands.Share c.args.path.now c.args.with.now c.args.perms c.args.fresh.now) (Some c.args.user) (refused Collision) c.requires.user
     (share-used (same_text c.args.with.now.host st.host) (v.stands (record { user = c.args.user; path = c.args.path.now })) (length v.shares) (is_used st.users v.shares (hex c.args.fresh.now)) own stands few used))
 
 pub returns : goal.returns
-returns c =
+returns g c =
     let st = c.args.tables.now.state in
     let v = view_in st in
     let secret = c.in_ok-secret.secret in
@@ -72,7 +72,7 @@ returns c =
     let own : same_text c.args.with.now.host st.host ≡ false = sym c.is_own_host.ensures ∙ c.if-is_own_host.false in
     let stands : is_some (v.stands (record { user = c.args.user; path = c.args.path.now })) ≡ true = sym c.in_ok-stands.ensures ∙ c.if-not-branch.false in
     let few : nat_lt 65536 (length v.shares + 1) ≡ false = ap (λ n. nat_lt 65536 (n + 1)) (count-is st c.share_count.result c.share_count.ensures) ∙ (sym c.is_full.ensures ∙ c.if-is_full.false) in
-    let unused : is_used st.users v.shares secret ≡ false = sym c.is_used.ensures ∙ c.if-is_used.false in
+    let unused : is_used st.users v.shares secret ≡ false = sym c.is_used.ensures.used ∙ c.if-is_used.false in
     let not_used : is_used st.users v.shares (hex c.args.fresh.now) ≡ false = ap (λ text. is_used st.users v.shares text) (sym c.in_ok-secret.ensures.text) ∙ unused in
     let made = c.in_ok-share.ensures ∙ ap (λ host. own_share_from host c.args.user name c.args.path.now c.args.with.now c.args.perms secret) c.host.ensures in
     let rows : nat_lt 65536 (length st.shares + 1) ≡ false = ap (λ n. nat_lt 65536 (n + 1)) (sym c.share_count.ensures) ∙ (sym c.is_full.ensures ∙ c.if-is_full.false) in

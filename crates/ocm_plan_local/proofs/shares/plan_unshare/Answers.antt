@@ -9,14 +9,14 @@ use Rattle.ocm_plan_local.proofs.Makes.{unshare-makes}
 use Rattle.ocm_plan_local.proofs.shares.plan_unshare.Goals as goal
 
 pub returns-in_ok-sent-in-Ok : goal.returns-in_ok-sent-in-Ok
-returns-in_ok-sent-in-Ok c =
+returns-in_ok-sent-in-Ok g c =
     let st = c.args.tables.now.state in
     let own = c.in-Ok.ensures.ok in
     c.new.ensures.plans _
     (answered st c.args.key.now (commands.Unshare c.args.id) (Some c.args.user) Done c.requires (end-done (share_of_owner (view_in st) c.args.user c.args.id) (is_live_in (view_in st) c.args.id) c.in-Ok._share.now own.owned own.live))
     refl refl
-    (unshare-makes st c.args.key.now c.args.id Done c.in_ok-ids-in-Ok.ids c.in_ok-sent-in-Ok.sent c.in_ok-ids-in-Ok.ensures c.in_ok-sent-in-Ok.ensures)
+    (unshare-makes st c.args.key.now c.args.id Done c.in_ok-ids-in-Ok.ids c.in_ok-sent-in-Ok.sent c.in_ok-ids-in-Ok.ensures.cut c.in_ok-sent-in-Ok.ensures)
     own.there refl
 
 pub returns-in-Err : goal.returns-in-Err
-returns-in-Err c = c.refused.ensures.plans _ (answered c.args.tables.now.state c.args.key.now (commands.Unshare c.args.id) (Some c.args.user) (refused c.in-Err.why) c.requires c.in-Err.ensures.err)
+returns-in-Err g c = c.refused.ensures.plans _ (answered c.args.tables.now.state c.args.key.now (commands.Unshare c.args.id) (Some c.args.user) (refused c.in-Err.why) c.requires c.in-Err.ensures.err)

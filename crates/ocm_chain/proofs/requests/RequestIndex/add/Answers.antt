@@ -8,7 +8,7 @@ use Rattle.ocm_chain.proofs.Search.{ascends-insert, found_by-insert, found_equal
 use Rattle.ocm_chain.proofs.requests.RequestIndex.add.Goals as goal
 
 pub invariant_of-self : goal.invariant_of-self
-invariant_of-self c =
+invariant_of-self g c =
     let items = rw c.unwrap.ensures at c.insert.ensures.items in
     let parted = rw (← c.self.view_is) at c.in-Err.ensures.absent in
     let entry : RequestEntry = record { parent = c.args.parent; sender_id = c.args.sender_id; number = c.args.number } in
@@ -16,7 +16,7 @@ invariant_of-self c =
     (grind (arith, common_steps), rw items up)
 
 pub returns-in-Err-clause-found : goal.returns-in-Err-clause-found
-returns-in-Err-clause-found c = λ p s.
+returns-in-Err-clause-found g c = λ p s.
     let es = c.self.inside.entries.items in
     let items = rw c.unwrap.ensures at c.insert.ensures.items in
     let entry : RequestEntry = record { parent = c.args.parent; sender_id = c.args.sender_id; number = c.args.number } in
@@ -29,7 +29,7 @@ returns-in-Err-clause-found c = λ p s.
     (found_by-insert (is_of_request p s) (λ (e : RequestEntry). e.number) es c.in-Err.place entry absent ∙ number_or-new (nat_eq c.args.parent p && same_text c.args.sender_id s) c.args.number (number_for es p s) absent)
 
 pub returns-in_default-clause-found : goal.returns-in_default-clause-found
-returns-in_default-clause-found c = λ p s.
+returns-in_default-clause-found g c = λ p s.
     let es = c.self.inside.entries.items in
     let equal = rw (← c.self.view_is) at c.in_default.ensures.found in
     let found = found_equal by_request by_request-total (λ (e : RequestEntry). (e.parent, e.sender_id)) (is_of_request c.args.parent c.args.sender_id) (λ (e : RequestEntry). e.number) es (c.args.parent, c.args.sender_id) c.self.invariant.1 (λ e. request_tests e.parent c.args.parent e.sender_id c.args.sender_id) _ equal.0 equal.1 equal.2 in

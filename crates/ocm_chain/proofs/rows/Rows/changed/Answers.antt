@@ -10,13 +10,13 @@ use Rattle.ocm_chain.proofs.Alone.{changes-alone}
 use Rattle.ocm_chain.proofs.rows.Rows.changed.Goals as goal
 
 pub reach_alone-after-requires-clause-lower : goal.reach_alone-after-requires-clause-lower
-reach_alone-after-requires-clause-lower c = rw c.deref.ensures.value c.self.invariant.lower
+reach_alone-after-requires-clause-lower g c = rw c.deref.ensures.value c.self.invariant.lower
 
 pub reach_alone-after-requires-clause-right : goal.reach_alone-after-requires-clause-right
-reach_alone-after-requires-clause-right c = rw c.deref.ensures.value c.self.invariant.right
+reach_alone-after-requires-clause-right g c = rw c.deref.ensures.value c.self.invariant.right
 
-pub returns-then-not-row : goal.returns-then-not-row
-returns-then-not-row c =
+pub returns-then-not-row-clause-changed : goal.returns-then-not-row-clause-changed
+returns-then-not-row-clause-changed g c =
     let rows = c.self.inside.rows.items in
     let own = rw (← c.self.view_is) at c.at-row.ensures.own in
     let reach = rw (← c.self.view_is) at c.at-row.ensures.reach in
@@ -29,8 +29,8 @@ returns-then-not-row c =
     let P : List Change → Type 0 = λ cs. IfOk c.changes_alone.result (λ list. list ≡ cs) in
     rw (← c.self.view_is) (subst P (both ∙ told) c.changes_alone.ensures)
 
-pub returns : goal.returns
-returns c =
+pub returns-clause-changed : goal.returns-clause-changed
+returns-clause-changed g c =
     let rows = c.self.inside.rows.items in
     let there = rw (← c.self.view_is) at c.at-row.ensures.own in
     let after = rw (c.deref-2.ensures.value, c.rights-2.ensures.value) at c.in_ok-after.ensures in

@@ -8,8 +8,8 @@ use Rattle.ocm_chain.proofs.Hypothesis.{cut-is}
 use Rattle.ocm_chain.proofs.Alone.{cut-alone}
 use Rattle.ocm_chain.proofs.rows.Rows.cut_by.Goals as goal
 
-pub returns-then-not-row : goal.returns-then-not-row
-returns-then-not-row c =
+pub returns-then-not-row-clause-cut : goal.returns-then-not-row-clause-cut
+returns-then-not-row-clause-cut g c =
     let rows = c.self.inside.rows.items in
     let own = rw (← c.self.view_is) at c.at-row.ensures.own in
     let reach = rw (← c.self.view_is) at c.at-row.ensures.reach in
@@ -18,8 +18,8 @@ returns-then-not-row c =
     let P : List ℕ → Type 0 = λ ns. IfOk c.cut_alone.result (λ list. list ≡ ns) in
     rw (← c.self.view_is) (subst P (ap (λ r. if reach_goes_on c.args.moment r then c.args.id ∷ [] else []) reach ∙ taken) c.cut_alone.ensures)
 
-pub returns : goal.returns
-returns c =
+pub returns-clause-cut : goal.returns-clause-cut
+returns-clause-cut g c =
     let rows = c.self.inside.rows.items in
     let there = rw (← c.self.view_is) at c.at-row.ensures.own in
     let after = rw c.deref.ensures.value at c.in_ok-after.ensures in

@@ -9,7 +9,7 @@ use Rattle.ocm_chain.proofs.Search.{ascends-insert, found_by-insert, found_equal
 use Rattle.ocm_chain.proofs.secrets.SecretIndex.add.Goals as goal
 
 pub invariant_of-self : goal.invariant_of-self
-invariant_of-self c =
+invariant_of-self g c =
     let items = rw c.unwrap.ensures at c.insert.ensures.items in
     let parted = rw (← c.self.view_is) at c.in-Err.ensures.absent in
     let entry : SecretEntry = record { secret = c.args.secret; number = c.args.number } in
@@ -17,7 +17,7 @@ invariant_of-self c =
     (grind (arith, common_steps), rw items up)
 
 pub returns-in-Err-clause-found : goal.returns-in-Err-clause-found
-returns-in-Err-clause-found c = λ s.
+returns-in-Err-clause-found g c = λ s.
     let items = rw c.unwrap.ensures at c.insert.ensures.items in
     let entry : SecretEntry = record { secret = c.args.secret; number = c.args.number } in
     let fresh = rw (← c.self.view_is) at c.requires.fresh in
@@ -30,14 +30,14 @@ impossible : (n : ℕ) (found : _) → found ≡ Some n → found ≡ None → �
 impossible n found e f = cc
 
 pub returns-in_default-clause-found : goal.returns-in_default-clause-found
-returns-in_default-clause-found c =
+returns-in_default-clause-found g c =
     let here = rw (← c.self.view_is) at c.in_default.ensures.found in
     let fresh = rw (← c.self.view_is) at c.requires.fresh in
     let found = found_equal (slice_cmp nat_cmp) nat_list_cmp_total (λ (e : SecretEntry). e.secret) (λ (e : SecretEntry). same_text e.secret c.args.secret) (λ (e : SecretEntry). e.number) c.self.inside.entries.items c.args.secret c.self.invariant.1 (λ e. secret_tests e.secret c.args.secret) _ here.0 here.1 here.2 in
     absurd (impossible _ _ found fresh)
 
 pub returns-in_default-clause-len : goal.returns-in_default-clause-len
-returns-in_default-clause-len c =
+returns-in_default-clause-len g c =
     let here = rw (← c.self.view_is) at c.in_default.ensures.found in
     let fresh = rw (← c.self.view_is) at c.requires.fresh in
     let found = found_equal (slice_cmp nat_cmp) nat_list_cmp_total (λ (e : SecretEntry). e.secret) (λ (e : SecretEntry). same_text e.secret c.args.secret) (λ (e : SecretEntry). e.number) c.self.inside.entries.items c.args.secret c.self.invariant.1 (λ e. secret_tests e.secret c.args.secret) _ here.0 here.1 here.2 in

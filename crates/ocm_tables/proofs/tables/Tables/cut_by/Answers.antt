@@ -1,4 +1,4 @@
 use Rattle.ocm_tables.proofs.tables.Tables.cut_by.Goals as goal
 
-pub returns : goal.returns
-returns c = rw (← c.self.view_is) c.cut_by.ensures
+pub returns-clause-cut : goal.returns-clause-cut
+returns-clause-cut g c = rw (← c.self.view_is) c.cut_by.ensures.cut

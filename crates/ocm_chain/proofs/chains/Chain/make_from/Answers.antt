@@ -4,10 +4,10 @@ use Rattle.ocm_rules.specs.declared.rows.ShareRow.{ShareRow}
 use Rattle.ocm_rules.specs.State.{new_share_row}
 use Rattle.ocm_chain.specs.Lists.{made_of}
 use Rattle.ocm_chain.proofs.OneMore.{chain-more}
-use Rattle.ocm_chain.proofs.chains.Chain.make.Goals as goal
+use Rattle.ocm_chain.proofs.chains.Chain.make_from.Goals as goal
 
 pub invariant_of-self : goal.invariant_of-self
-invariant_of-self c =
+invariant_of-self g c =
     let shares = c.self.inside.rows.shares in
     let planned = c.args.planned in
     let fresh = rw (← c.self.view_is) at c.requires.secret in

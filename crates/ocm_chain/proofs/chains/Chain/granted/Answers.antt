@@ -1,6 +1,6 @@
 use Rattle.std.proofs.Common.{◌∙◌, sym, true, false}
 use Rattle.ocm_chain.proofs.LiveShares.{guest-there}
-use Rattle.ocm_chain.proofs.chains.Chain.granted_counted.Goals as goal
+use Rattle.ocm_chain.proofs.chains.Chain.granted.Goals as goal
 
 pub returns-then-not-goes_on-clause-guest : goal.returns-then-not-goes_on-clause-guest
 returns-then-not-goes_on-clause-guest g c =

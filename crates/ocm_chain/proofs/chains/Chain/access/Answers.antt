@@ -1,6 +1,6 @@
 use Rattle.std.proofs.Common.{◌∙◌, refl}
 use Rattle.ocm_chain.proofs.LiveShares.{live-there}
-use Rattle.ocm_chain.proofs.chains.Chain.access_counted.Goals as goal
+use Rattle.ocm_chain.proofs.chains.Chain.access.Goals as goal
 
 pub returns-clause-access : goal.returns-clause-access
 returns-clause-access g c =

@@ -1,4 +1,0 @@
-use Rattle.ocm_chain.proofs.chains.Chain.find.Given as goal
-
-abbrev pub ghosts-find_from : goal.ghosts-find_from
-ghosts-find_from a = record { name = a.blank.name; parts = a.blank.parts }

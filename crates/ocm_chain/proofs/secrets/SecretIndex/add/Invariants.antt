@@ -1,4 +1,0 @@
-use Rattle.ocm_chain.proofs.secrets.SecretIndex.add.Given as goal
-
-abbrev pub ghosts-place_from : goal.ghosts-place_from
-ghosts-place_from a = record { name = a.blank.name; parts = a.blank.parts }
