@@ -226,9 +226,11 @@ impl Rows {
         let closed = row.own.closed;
         steps.add(self.len());
         if !row.is_parent {
+            steps.tick();
             let after = reach_alone(&self.rows, id, perms.rights(), closed);
             return changes_alone(alloc, id, row.reach, after, moment);
         }
+        steps.add(self.len());
         let after = reaches_with(alloc, &self.rows, id, perms.rights(), closed)?;
         steps.add(self.len());
         changes_among(alloc, &self.rows, &after, moment)
