@@ -14,11 +14,24 @@ use std::rt::Files;
 /// Who may open a file that was made: its owner alone, since it holds keys.
 const MODE: u32 = 0o600;
 
+/// How many zeros are written behind a write that lengthens the file, in pieces of the size below: 1 MiB. While writes
+/// stay within them the file's length stays, so that a sync writes the bytes alone and not also how long the file is.
+const PIECES_AHEAD: u64 = 64;
+
+const PIECE: &[u8; 16_384] = &[0; 16_384];
+
+/// A file that is shorter than this ends where it was written.
+const AHEAD_FROM: u64 = 514;
+
 /// A disk over a real file. It tells nothing of what it holds, and counts its faults. A call that a signal interrupted
-/// is tried again. Room is free.
+/// is tried again. Room is free. The file may have up to 1 MiB of zeros behind what was written; when it is opened again
+/// they belong to it.
 pub struct FileDisk {
     file: File,
+    /// How many bytes the disk has.
     len: u64,
+    /// How many bytes the file has at least: those of the disk, and zeros.
+    laid: u64,
     faults: u64,
 }
 
@@ -27,6 +40,7 @@ impl Drop for FileDisk {
         let FileDisk {
             file: _,
             len: _,
+            laid: _,
             faults: _,
         } = self;
     }
@@ -50,8 +64,27 @@ impl FileDisk {
         Ok(FileDisk {
             file,
             len,
+            laid: len,
             faults: 0,
         })
+    }
+
+    /// Writes zeros behind a place at which a write is about to end, where it lengthens the file. Where the system
+    /// refuses, that write lengthens the file by itself.
+    fn lay_ahead(&mut self, end: u64)
+        requires { end ≤ 2 ^ 40 }
+        ensures len { self.new.len ≡ self.old.len }
+        ensures faults { self.new.faults ≡ self.old.faults }
+    {
+        if end <= self.laid || self.len < AHEAD_FROM {
+            return;
+        }
+        for piece in 0..PIECES_AHEAD {
+            if self.file.write_all_at(PIECE, end + piece * 16_384).is_err() {
+                return;
+            }
+        }
+        self.laid = end + PIECES_AHEAD * 16_384;
     }
 
     /// Counts a fault where the system told one.
@@ -135,9 +168,11 @@ impl Disk for FileDisk {
     }
 
     fn write_at(&mut self, place: u64, bytes: &[u8]) -> Result<(), Failed> {
+        let end = place + bytes.len() as u64;
+        self.lay_ahead(end);
         let tell = self.file.write_all_at(bytes, place);
         self.told(tell)?;
-        self.len = self.len.max(place + bytes.len() as u64);
+        self.len = self.len.max(end);
         Ok(())
     }
 
@@ -145,11 +180,12 @@ impl Disk for FileDisk {
         let tell = self.file.set_len(len);
         self.told(tell)?;
         self.len = len;
+        self.laid = len;
         Ok(())
     }
 
     fn sync(&mut self) -> Result<(), Failed> {
-        let tell = self.file.sync_all();
+        let tell = self.file.sync_data();
         self.told(tell)
     }
 }
