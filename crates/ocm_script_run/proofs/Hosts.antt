@@ -14,16 +14,12 @@ use Rattle.ocm_rules.specs.Numbers.{same_text}
 use Rattle.ocm_script.specs.declared.events.Event.{Event}
 use Rattle.ocm_script.specs.declared.events.Event.TheVariants as events
 use Rattle.ocm_script.specs.Events.{host_of}
-use Rattle.ocm_dav.specs.declared.configs.Config.{Config}
-use Rattle.ocm_dav.specs.declared.wants.Wanted.{Wanted}
-use Rattle.ocm_dav.specs.declared.wants.Wanted.TheVariants as wants
 use Rattle.ocm_script_run.specs.Asked.{ask_of}
 use Rattle.ocm_script_run.specs.Servers.{Server, World, asked_at, message_at, reply_at, restart, server_after, server_at, step_at}
 use Rattle.ocm_script_run.specs.Deliveries.{Run, all_delivered, answered, deliver, delivered, given, next_wanting, nothing, others_wanting, pump, pumped, unreachable}
-use Rattle.ocm_script_run.specs.Talks as talks
-use Rattle.ocm_script_run.specs.Talks.{Answers, Says, after_tick, asked_of, is_done, replied}
 use Rattle.ocm_script_run.specs.Transcript.{IsRun, Talked, Transcript, plain, run}
 use Rattle.ocm_script_run.specs.Traces.{IsLogged, Logged, names}
+use Rattle.ocm_script_run.proofs.Talking.{same-host}
 
 -- whether there is a server of this host
 abbrev pub is_there : List ℕ → World → Bool
@@ -110,30 +106,6 @@ pump-stays wanting world n sender fresh host there = by_reply (reply_at (next_wa
 
 -- ---- connections
 
-replied-host : (first second : Bool) (server : Server) (ask : Ask) → (replied first second server ask).1.host ≡ server.host
-replied-host first second server ask = by_tick (is_done (asked_of first server (asks.Tick server.clock)).0)
-  where
-    by_tick : (done : Bool) → (after_tick done second (asked_of first server (asks.Tick server.clock)) ask).1.host ≡ server.host
-    by_tick true = refl
-    by_tick false = refl
-
-answers-host : (wanted : Wanted) (server after : Server) (page : Option (List ℕ)) → Answers wanted server after page → after.host ≡ server.host
-answers-host (wants.Page page) server after (Some bytes) h = ap (λ (s : Server). s.host) h.0
-answers-host (wants.Page page) server after None h = ap (λ (s : Server). s.host) h
-answers-host (wants.Ask ask shape) server after (Some bytes) h = ap (λ (s : Server). s.host) h.2.0 ∙ replied-host h.0 h.1 server ask
-answers-host (wants.Ask ask shape) server after None (inl same) = ap (λ (s : Server). s.host) same
-answers-host (wants.Ask ask shape) server after None (inr h) = ap (λ (s : Server). s.host) h.2 ∙ replied-host h.0 h.1 server ask
-
--- a connection leaves a server of the same host
-says-host : (config : Config) (line : ℕ) (fresh : List ℕ) (number place : ℕ) (bytes : List ℕ) (server after : Server) (text : List ℕ) → Says config line fresh number place bytes server after text → after.host ≡ server.host
-says-host config line fresh _ _ _ _ _ _ (talks.over number place bytes server is) = refl
-says-host config line fresh _ _ _ _ _ _ (talks.refused number place bytes server fault is) = refl
-says-host config line fresh _ _ _ _ _ _ (talks.stuck number place bytes server) = refl
-says-host config line fresh _ _ _ _ _ _ (talks.missed number place bytes rest message server after is answers) = answers-host _ server after None answers
-says-host config line fresh _ _ _ _ _ _ (talks.last number place bytes rest message server after page is answers ends) = answers-host _ server after (Some page) answers
-says-host config line fresh _ _ _ _ _ _ (talks.next number place bytes front rest message server mid after page text is split answers goes says) =
-    says-host config line fresh _ _ rest mid after text says ∙ answers-host _ server mid (Some page) answers
-
 found-host : (world : World) (at : List ℕ) (server : Server) → server_at world at ≡ Some server → server.host ≡ at
 found-host [] at server found = absurd (cc)
 found-host (one ∷ others) at server found = by_test (same_text one.host at) refl found (λ e. found-host others at server e)
@@ -145,7 +117,7 @@ found-host (one ∷ others) at server found = by_test (same_text one.host at) re
 talked-stays : (world : World) (n : ℕ) (at fresh bytes : List ℕ) (found : Option Server) (line : Run) (host : List ℕ) → server_at world at ≡ found → Talked world n at fresh bytes found line → Stays host world line.world
 talked-stays world n at fresh bytes None line host e talked there = subst (λ (r : Run). is_there host r.world ≡ true) (sym talked) there
 talked-stays world n at fresh bytes (Some server) line host e talked there =
-    let same : talked.0.host ≡ at = says-host _ n fresh 0 0 bytes server talked.0 talked.1 talked.2 ∙ found-host world at server e in
+    let same : talked.0.host ≡ at = ap (λ (s : Server). s.host) talked.2.is_after ∙ same-host server talked.2.calls ∙ found-host world at server e in
     subst (λ (r : Run). is_there host r.world ≡ true) (sym talked.3) (step-stays (λ _. talked.0) world at host (λ s _. same) there)
 
 -- ---- lines

@@ -6,11 +6,12 @@ use Rattle.ocm_base.proofs.Pieces.{Appends-twice}
 use Rattle.ocm_script.specs.declared.events.Event.{Event}
 use Rattle.ocm_script.specs.declared.events.Event.TheVariants as events
 use Rattle.ocm_script_run.specs.Servers.{Server, World, server_at, step_at}
-use Rattle.ocm_script_run.specs.Talks.{no_memory_lines, stuck}
+use Rattle.ocm_script_run.specs.Talks.{config_of}
 use Rattle.ocm_script_run.specs.Deliveries.{Run}
 use Rattle.ocm_script_run.specs.Transcript.{IsRun, Talked, Transcript, Writes, WritesPart, run}
-use Rattle.ocm_script_run.specs.Running.{Ran}
+use Rattle.ocm_script_run.specs.Running.{Ran, no_memory_lines}
 use Rattle.ocm_script_run.proofs.Chains.{LeadsOn, LeadsOn-at, LeadsOn-end, LeadsOn-more, LeadsOn-start}
+use Rattle.ocm_script_run.proofs.Talking.{talk-stuck}
 
 appends_nothing : (old : Option (List ℕ)) → Appends old old []
 appends_nothing None = refl
@@ -20,7 +21,7 @@ appends_nothing (Some held) = ap Some (sym (append-nil held))
 some_talk : (w : World) (n : ℕ) (host fresh bytes : List ℕ) (found : Option Server) → (line : Run) × Talked w n host fresh bytes found line
 some_talk w n host fresh bytes None = (record { world = w; text = [] }, refl)
 some_talk w n host fresh bytes (Some server) =
-    (record { world = step_at (λ _. server) w host; text = no_memory_lines n }, (server, no_memory_lines n, stuck 0 0 bytes server, refl))
+    (record { world = step_at (λ _. server) w host; text = no_memory_lines n }, (server, no_memory_lines n, talk-stuck (config_of server.host) n fresh 0 0 bytes server, refl))
 
 -- each event has a line
 some_run : (w : World) (n : ℕ) (e : Event) → (line : Run) × IsRun w n e line

@@ -14,7 +14,7 @@ use Rattle.ocm_script.specs.Events.{host_of}
 use Rattle.ocm_script_run.specs.Asked.{ask_of, fault_of, fault_text, shows_digits}
 use Rattle.ocm_script_run.specs.Servers.{Server, World, asked_at, history, new_server, reply_at, restart, server_at, step_at}
 use Rattle.ocm_script_run.specs.Deliveries.{Run, deliver, next_wanting, pump}
-use Rattle.ocm_script_run.specs.Talks.{Says, config_of}
+use Rattle.ocm_script_run.specs.Talks.{IsTalk, config_of}
 
 -- a new server
 abbrev pub named : World → ℕ → List ℕ → Run
@@ -69,11 +69,11 @@ run wanting world number (Fuse host calls) = fused world number host calls
 run wanting world number (Crash host left) = restarted left world number host
 run wanting world number e = plain (next_wanting wanting) world number e (host_of e) (ask_of e)
 
--- what a connection to a server does and prints
+-- what a connection to a server does and prints: it is a talk of the server
 abbrev pub Talked : World → ℕ → List ℕ → List ℕ → List ℕ → Option Server → Run → Type 0
 Talked world number host fresh bytes None line = line ≡ record { world = world; text = [] }
 Talked world number host fresh bytes (Some server) line =
-    (after : Server) × (text : List ℕ) × Says (config_of server.host) number fresh 0 0 bytes server after text
+    (after : Server) × (text : List ℕ) × IsTalk (config_of server.host) number fresh 0 0 bytes server after text
     × (line ≡ record { world = step_at (λ _. after) world host; text = text })
 
 -- What a line does and prints. Memory may be wanting at each of its asks; all else is fixed.

@@ -1,6 +1,5 @@
 //! A connection of a script: its messages one after another, each answered by the server, and the lines that it prints.
-ghost use Rattle.std.specs.Prelude.{◌≡◌, [], ◌++◌, ◌||◌, Bool, false, IfOk, IfSome, OnOk, IsTrue};
-ghost use Rattle.std.specs.Result.{result_ok};
+ghost use Rattle.std.specs.Prelude.{◌≡◌, [], ◌++◌, false, IfOk, IfErr, IfSome, IsTrue};
 ghost use Rattle.ocm_dav.specs.Routes.{wanted_of};
 ghost use Rattle.ocm_dav.specs.Sound.{is_requested};
 ghost use Rattle.ocm_dav.specs.declared.wants.Wanted.TheVariants as wants;
@@ -10,21 +9,23 @@ ghost use Rattle.ocm_http.specs.Messages.{IsRequest};
 ghost use Rattle.ocm_http.specs.Written as written;
 ghost use Rattle.ocm_http.specs.declared.messages.Kind.TheVariants.{Requests};
 ghost use Rattle.ocm_limits.specs.Limits.{most_body_bytes};
-ghost use Rattle.ocm_dav_pages.specs.Pages as pages;
 ghost use Rattle.ocm_dav_pages.specs.Pages.{HasPage};
-ghost use Rattle.ocm_script_run.specs.Running.{GivesLines};
+ghost use Rattle.ocm_server_connections.specs.Talk.{wanted_at};
+ghost use Rattle.ocm_script_run.specs.Running as running;
+ghost use Rattle.ocm_script_run.specs.Running.{Answering, Replying, Showing};
 ghost use Rattle.ocm_script_run.specs.Servers.{Server};
 ghost use Rattle.ocm_script_run.specs.Talks as talks;
-ghost use Rattle.ocm_script_run.specs.Talks.{Answers, Says, config_of, replied};
+ghost use Rattle.ocm_script_run.specs.Talks.{IsTalk, config_of};
 
 use crate::line_parts::{add, append, joined, joined_line};
 use crate::servers::ScriptServer;
 use ocm_base::{Bytes, Joined, List, MemSink, NoMemory, PureSource, and, hex_of};
 use ocm_dav::{Config, Wanted, ask_of};
-use ocm_dav_pages::{Shape, page_of};
+use ocm_dav_pages::{Page, Shape};
 use ocm_entry::{Ask, Reply};
-use ocm_http::{Fixed, FrameFault, Head, Message, Reader, write_fixed};
-use ocm_limits::{LAST_CONNECTION_REQUEST, MOST_BODY_BYTES, MOST_CONNECTION_REQUESTS};
+use ocm_http::{Fixed, FrameFault, Message, Reader, write_fixed};
+use ocm_limits::{MOST_BODY_BYTES, MOST_CONNECTION_REQUESTS};
+use ocm_server_connections::{Missed, counted, ending_after, is_done, page_for};
 use ocm_types::{Fresh, Host};
 use std::alloc::Global;
 
@@ -42,7 +43,7 @@ pub fn talk<N: ScriptServer>(
 ) -> Result<Bytes, NoMemory>
     requires { (server : Server) × N.stands node.old server }
     ensures { IfOk result (λ text. (server : Server) → N.stands node.old server
-        → (after : Server) × Says (config_of server.host) line fresh 0 0 bytes.now server after text × N.stands node.new after) }
+        → (after : Server) × IsTalk (config_of server.host) line fresh 0 0 bytes.now server after text × N.stands node.new after) }
 {
     let config = config(alloc, node.host())?;
     answers(alloc, node, &config, line, fresh, bytes)
@@ -67,7 +68,7 @@ fn answers<N: ScriptServer>(
 ) -> Result<Bytes, NoMemory>
     requires { (server : Server) × N.stands node.old server }
     ensures { IfOk result (λ text. (server : Server) → N.stands node.old server
-        → (after : Server) × Says config.now line fresh 0 0 bytes.now server after text × N.stands node.new after) }
+        → (after : Server) × IsTalk config.now line fresh 0 0 bytes.now server after text × N.stands node.new after) }
 {
     let mut source = PureSource::new(bytes.copy()?, PIECE);
     let Ok(mut reader) = Reader::requests(alloc, MOST_BODY_BYTES) else {
@@ -93,7 +94,7 @@ fn answers_to<N: ScriptServer>(
     requires stands { (server : Server) × N.stands node.old server }
     requires begun { reader.old ≡ record { kind = Requests; max = most_body_bytes; place = 0; held = []; failed = false; gone = 0 } }
     ensures { IfOk result (λ text. (server : Server) → N.stands node.old server
-        → (after : Server) × Says config.now line fresh 0 0 source.old.left server after text × N.stands node.new after) }
+        → (after : Server) × IsTalk config.now line fresh 0 0 source.old.left server after text × N.stands node.new after) }
 {
     let mut text = Bytes::new(alloc);
     for number in 0..MOST_CONNECTION_REQUESTS {
@@ -109,7 +110,7 @@ fn answers_to<N: ScriptServer>(
             line,
             fresh.plus(number),
             message,
-            number == LAST_CONNECTION_REQUEST,
+            number,
         )?;
         add(&mut text, more)?;
         if is_end {
@@ -120,7 +121,7 @@ fn answers_to<N: ScriptServer>(
     unreachable!()
 }
 
-/// As [`answer`], and lets the message go.
+/// The lines of one message behind so many others, and whether the connection ends with it.
 fn answer_of<N: ScriptServer>(
     alloc: Global,
     node: &mut N,
@@ -128,15 +129,25 @@ fn answer_of<N: ScriptServer>(
     line: u32,
     fresh: Fresh,
     message: Message,
-    last: bool,
+    number: u64,
 ) -> Result<(Bytes, bool), NoMemory>
     requires stands { (server : Server) × N.stands node.old server }
     requires request { IsRequest message.head }
-    ensures { IfOk result (λ r. (server : Server) → N.stands node.old server → (after : Server) × GivesLines config.now line fresh message last server after r.0 r.1 × N.stands node.new after) }
+    ensures { IfOk result (λ r. (server : Server) → N.stands node.old server
+        → Showing N.stands (wanted_at config.now number message fresh) line (running.is_last number message) server node.new r.0 r.1) }
 {
+    let last = is_last(number, &message);
+    let message = counted(message, number);
     let lines = answer(alloc, node, config, line, fresh, &message, last);
     drop(message);
     lines
+}
+
+/// Whether a connection ends with a message behind so many others.
+fn is_last(number: u64, message: &Message) -> bool
+    ensures { result ≡ running.is_last number message.now }
+{
+    ending_after(number, message).is_some()
 }
 
 /// The lines of one message, and whether the connection ends with it.
@@ -151,48 +162,31 @@ fn answer<N: ScriptServer>(
 ) -> Result<(Bytes, bool), NoMemory>
     requires stands { (server : Server) × N.stands node.old server }
     requires request { IsRequest message.now.head }
-    ensures { IfOk result (λ r. (server : Server) → N.stands node.old server → (after : Server) × GivesLines config.now line fresh message.now last server after r.0 r.1 × N.stands node.new after) }
+    ensures { IfOk result (λ r. (server : Server) → N.stands node.old server
+        → Showing N.stands (wanted_of config.now message.now fresh) line last server node.new r.0 r.1) }
 {
     match page(alloc, node, config, fresh, message) {
         Ok(page) => {
-            let is_end = is_last(last, &message.head);
-            let lines = page_lines(alloc, line, page, is_end)?;
-            Ok((lines, is_end))
+            let lines = page_lines(alloc, line, page, last)?;
+            Ok((lines, last))
         }
-        Err(NoMemory) => {
+        Err(_) => {
             let fixed = no_memory(alloc, line)?;
             Ok((fixed, true))
         }
     }
 }
 
-/// Whether a connection ends with a message: it is the last that is read, or it asks for the end.
-fn is_last(last: bool, head: &Head) -> bool
-    ensures { result ≡ (last || talks.closes head.now) }
-{
-    last || closes(head)
-}
-
 /// The line of a page, and behind it the line of the end where the connection ends with it.
-fn page_lines(alloc: Global, line: u32, page: Joined, is_end: bool) -> Result<Bytes, NoMemory>
-    ensures { IfOk result (λ text. text ≡ talks.page_lines line page is_end) }
+fn page_lines(alloc: Global, line: u32, page: Page, is_end: bool) -> Result<Bytes, NoMemory>
+    ensures { IfOk result (λ text. text ≡ running.page_lines line page.bytes is_end) }
 {
-    let text = page_line(alloc, line, &page);
+    let text = page_line(alloc, line, &page.bytes);
     drop(page);
     if is_end {
         with_end(alloc, line, text?, b"closed")
     } else {
         text
-    }
-}
-
-/// Whether a connection ends with a message.
-fn closes(head: &Head) -> bool
-    ensures { result ≡ talks.closes head.now }
-{
-    match head {
-        Head::Request { closing, .. } => *closing,
-        Head::Reply { .. } => true,
     }
 }
 
@@ -203,15 +197,17 @@ fn page<N: ScriptServer>(
     config: &Config,
     fresh: Fresh,
     message: &Message,
-) -> Result<Joined, NoMemory>
+) -> Result<Page, Missed>
     requires stands { (server : Server) × N.stands node.old server }
     requires request { IsRequest message.now.head }
-    ensures { (server : Server) → N.stands node.old server → (after : Server) × Answers (wanted_of config.now message.now fresh) server after (result_ok result) × N.stands node.new after }
+    ensures answers { (server : Server) → N.stands node.old server
+        → Answering N.stands (wanted_of config.now message.now fresh) server node.new result }
+    ensures missed { IfErr result (λ missed. missed ≡ Missed.NoMemory) }
 {
     match ask_of(alloc, config, message, fresh) {
-        Ok(Wanted::Page(page)) => Ok(page.bytes),
+        Ok(Wanted::Page(page)) => Ok(page),
         Ok(Wanted::Ask(ask, shape)) => asked_page(alloc, node, ask, &shape),
-        Err(NoMemory) => Err(NoMemory),
+        Err(NoMemory) => Err(Missed::NoMemory),
     }
 }
 
@@ -221,39 +217,19 @@ fn asked_page<N: ScriptServer>(
     node: &mut N,
     ask: Ask,
     shape: &Shape,
-) -> Result<Joined, NoMemory>
+) -> Result<Page, Missed>
     requires stands { (server : Server) × N.stands node.old server }
     requires proper { IsTrue (is_proper ask) }
     requires requested { IsTrue (is_requested ask) }
     requires range { IfSome shape.now.range (λ span. IsTrue (is_span span)) }
-    ensures { (server : Server) → N.stands node.old server → (after : Server) × Answers (wants.Ask ask shape.now) server after (result_ok result) × N.stands node.new after }
+    ensures answers { (server : Server) → N.stands node.old server
+        → Answering N.stands (wants.Ask ask shape.now) server node.new result }
+    ensures missed { IfErr result (λ missed. missed ≡ Missed.NoMemory) }
 {
     let reply = reply_to(node, ask);
-    let page = reply_page(alloc, &reply, shape);
+    let page = page_for(alloc, &reply, shape);
     drop(reply);
     page
-}
-
-/// The page of a reply: out of memory has none.
-fn reply_page(alloc: Global, reply: &Reply, shape: &Shape) -> Result<Joined, NoMemory>
-    requires page { HasPage reply.now }
-    requires range { IfSome shape.now.range (λ span. IsTrue (is_span span)) }
-    ensures had { OnOk result (talks.is_no_memory reply.now ≡ false) }
-    ensures page { IfOk result (λ bytes. bytes ≡ (pages.page_of reply.now shape.now).bytes) }
-{
-    if is_no_memory(reply) {
-        return Err(NoMemory);
-    }
-    match page_of(alloc, reply, shape) {
-        Ok(page) => Ok(page.bytes),
-        Err(NoMemory) => Err(NoMemory),
-    }
-}
-
-fn is_no_memory(reply: &Reply) -> bool
-    ensures { result ≡ talks.is_no_memory reply.now }
-{
-    matches!(reply, Reply::NoMemory)
 }
 
 /// Ticks, and asks where that is done.
@@ -261,8 +237,7 @@ fn reply_to<N: ScriptServer>(node: &mut N, ask: Ask) -> Reply
     requires stands { (server : Server) × N.stands node.old server }
     requires proper { IsTrue (is_proper ask) }
     requires requested { IsTrue (is_requested ask) }
-    ensures replied { (server : Server) → N.stands node.old server
-        → (first : Bool) × (second : Bool) × (result ≡ (replied first second server ask).0) × N.stands node.new (replied first second server ask).1 }
+    ensures replied { (server : Server) → N.stands node.old server → Replying N.stands ask server.clock server node.new result }
     ensures page { HasPage result }
 {
     let time = node.clock();
@@ -274,12 +249,6 @@ fn reply_to<N: ScriptServer>(node: &mut N, ask: Ask) -> Reply
         drop(ask);
         ticked
     }
-}
-
-fn is_done(reply: &Reply) -> bool
-    ensures { result ≡ talks.is_done reply.now }
-{
-    matches!(reply, Reply::Done)
 }
 
 /// The line of a page.
@@ -308,7 +277,7 @@ fn with_end(alloc: Global, line: u32, text: Bytes, how: &[u8]) -> Result<Bytes, 
 
 /// A text, and behind it the lines where bytes are no message.
 fn with_refusal(alloc: Global, line: u32, text: Bytes, fault: FrameFault) -> Result<Bytes, NoMemory>
-    ensures { IfOk result (λ all. all ≡ text ++ talks.refused_lines line fault) }
+    ensures { IfOk result (λ all. all ≡ text ++ running.refused_lines line fault) }
 {
     let (text, end) = and(text, refused(alloc, line, fault))?;
     append(text, end)
@@ -323,7 +292,7 @@ fn end_text(alloc: Global, line: u32, how: &[u8]) -> Result<Bytes, NoMemory>
 
 /// The lines where bytes are no message.
 fn refused(alloc: Global, line: u32, fault: FrameFault) -> Result<Bytes, NoMemory>
-    ensures { IfOk result (λ text. text ≡ talks.refused_lines line fault) }
+    ensures { IfOk result (λ text. text ≡ running.refused_lines line fault) }
 {
     match fault {
         FrameFault::BadHead(place) => bad(alloc, line, place),
@@ -340,7 +309,7 @@ fn refused(alloc: Global, line: u32, fault: FrameFault) -> Result<Bytes, NoMemor
 
 /// The lines where the bytes at this place are refused.
 fn bad(alloc: Global, line: u32, place: u64) -> Result<Bytes, NoMemory>
-    ensures { IfOk result (λ text. text ≡ talks.bad_lines line place) }
+    ensures { IfOk result (λ text. text ≡ running.bad_lines line place) }
 {
     let digits = place.to_string(alloc)?;
     let how = joined(alloc, b"bad ", digits.as_bytes())?;
@@ -349,14 +318,14 @@ fn bad(alloc: Global, line: u32, place: u64) -> Result<Bytes, NoMemory>
 
 /// The lines where there was no memory for a page.
 fn no_memory(alloc: Global, line: u32) -> Result<Bytes, NoMemory>
-    ensures { IfOk result (λ text. text ≡ talks.no_memory_lines line) }
+    ensures { IfOk result (λ text. text ≡ running.no_memory_lines line) }
 {
     fixed(alloc, line, Fixed::NoMemory, b"no memory")
 }
 
 /// The lines of a fixed reply, with which a connection ended so.
 fn fixed(alloc: Global, line: u32, which: Fixed, how: &[u8]) -> Result<Bytes, NoMemory>
-    ensures { IfOk result (λ text. text ≡ talks.fixed_lines line which how.now) }
+    ensures { IfOk result (λ text. text ≡ talks.raw_line line (written.fixed which) ++ talks.end_line line how.now) }
 {
     let bytes = fixed_bytes(alloc, which)?;
     let text = raw_line(alloc, line, bytes.as_slice());

@@ -29,7 +29,8 @@ use ocm_types::Fresh;
 use std::alloc::Global;
 use std::sync::Wait;
 
-fn is_done(reply: &Reply) -> bool
+/// Whether a reply says that the ask was done.
+pub fn is_done(reply: &Reply) -> bool
     ensures { result ≡ talk.is_done reply.now }
 {
     matches!(reply, Reply::Done)
@@ -96,7 +97,7 @@ fn reply_to<T: Object, R: Wait>(
 }
 
 /// The page of a reply, where there was memory for both.
-fn page_for(alloc: Global, reply: &Reply, shape: &Shape) -> Result<Page, Missed>
+pub fn page_for(alloc: Global, reply: &Reply, shape: &Shape) -> Result<Page, Missed>
     requires reply { HasPage reply.now }
     requires range { IfSome shape.now.range (λ span. IsTrue (is_span span)) }
     ensures ok { IfOk result (λ page. (is_no_memory reply.now ≡ false) × (page ≡ pages.page_of reply.now shape.now)) }

@@ -121,8 +121,8 @@ fn closing(head: Head) -> Head
     }
 }
 
-/// A message as it counts behind so many others.
-fn counted(message: Message, number: u64) -> Message
+/// A message as it counts behind so many others: the last of a connection closes it.
+pub fn counted(message: Message, number: u64) -> Message
     ensures { result ≡ talk.counted number message }
 {
     let Message { head, body } = message;
@@ -134,8 +134,8 @@ fn counted(message: Message, number: u64) -> Message
     }
 }
 
-/// How the connection ends with the page of a message, if it does.
-fn ending_after(number: u64, message: &Message) -> Option<Ended>
+/// How the connection ends with the page of a message behind so many others, if it does.
+pub fn ending_after(number: u64, message: &Message) -> Option<Ended>
     ensures { result ≡ talk.ending_after number message.now }
 {
     if number == LAST_CONNECTION_REQUEST {
