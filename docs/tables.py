@@ -51,7 +51,7 @@ def signatures(text):
         if not match["pub"] and not inside_trait and not (owner and is_of_trait):
             continue
         rest = text[match.end() :]
-        end = re.search(r"^%s(?:\{|\})|;\n|\n\n" % match["indent"], rest, re.M)
+        end = re.search(r"^%s(?:\{|\})|;\n" % match["indent"], rest, re.M)
         head = rest[: end.start()] if end else rest
         clauses = re.findall(r"\b(requires|ensures)\s*(\w+)?\s*\{", head)
         found.append((f"{owner}::{match['name']}" if owner else match["name"], clauses))
