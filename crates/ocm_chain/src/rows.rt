@@ -224,7 +224,6 @@ impl Rows {
         steps.tick();
         let row = self.at(id);
         let closed = row.own.closed;
-        steps.add(self.len());
         if !row.is_parent {
             steps.tick();
             let after = reach_alone(&self.rows, id, perms.rights(), closed);
