@@ -131,7 +131,7 @@ impl<'a, R: time::Clock> Conn for StreamConn<'a, R> {
         reader.next(self)
     }
 
-    fn rests(&mut self) -> bool {
+    fn rests(&mut self, _reader: &Reader) -> bool {
         self.line_rests()
     }
 

@@ -51,7 +51,7 @@ pub fn tell_host<R: Eprint>(rt: &R, alloc: Global, host: &Host) {
         }
         Some(Reading::NotAtAll) => {
             let _ = eprintln!(rt;
-                "ocmd: other programs cannot read the host {name}: a name that ends in a number has to be an IPv4 address"
+                "ocmd: other programs cannot read the host {name}, so no message reaches it"
             );
         }
         Some(Reading::AsItStands) | None => {}

@@ -1,4 +1,5 @@
 ghost use Rattle.std.specs.Prelude.{◌≡◌};
+ghost use Rattle.ocm_http.specs.Readers.{holding};
 ghost use Rattle.ocm_http.specs.Written.{fixed};
 ghost use Rattle.ocm_server_connections.specs.Sides.{Sides, IsOpen, IsEnd, Gives, Sends};
 
@@ -15,9 +16,11 @@ pub trait Conn: Drop {
         requires { IsOpen reader.old }
         ensures { Gives reader.old reader.new (sides self.old) (sides self.new) result };
 
-    /// Whether nothing is here to read now, and the connection may be handed back until there is. One that knows what it
-    /// has left rests only where that is nothing.
-    fn rests(&mut self) -> bool
+    /// Whether nothing is here to read now, and the connection may be handed back until there is. It is asked between two
+    /// messages alone, where its reader holds nothing: amid a message a rest would be taken for the end of the input. One
+    /// that knows what it has left rests only where that is nothing.
+    fn rests(&mut self, reader: &Reader) -> bool
+        requires { holding reader.now ≡ 0 }
         ensures same { sides self.new ≡ sides self.old }
         ensures told { IsEnd (sides self.old) result };
 

@@ -51,7 +51,7 @@ impl<S: Source, K: Sink> Conn for Pair<S, K> {
     }
 
     /// Never: a source cannot be asked.
-    fn rests(&mut self) -> bool {
+    fn rests(&mut self, _reader: &Reader) -> bool {
         false
     }
 

@@ -21,7 +21,7 @@ impl Conn for RestConn {
     }
 
     /// Exactly where nothing is left.
-    fn rests(&mut self) -> bool
+    fn rests(&mut self, _reader: &Reader) -> bool
         ensures exact { result ≡ (length self.old.pair.source.left == 0) }
         ensures same { self.new ≡ self.old }
     {

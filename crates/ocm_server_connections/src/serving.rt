@@ -182,7 +182,7 @@ fn is_resting<C: Conn>(conn: &mut C, reader: &Reader) -> bool
     if reader.held() != 0 {
         return false;
     }
-    conn.rests()
+    conn.rests(reader)
 }
 
 /// The next message of a connection. None where it rests or the input ended, between two messages.
