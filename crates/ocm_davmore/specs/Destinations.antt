@@ -83,7 +83,7 @@ text_destination ours text =
     if begins_with_slash text then path_destination (before_query text)
     else address_destination ours (parse_url None text)
 
--- why a value that is not UTF-8 names no path: one that begins with `/dav/` is taken for no text, any other for another server's
+-- why a value that is not UTF-8 names no path: below our `/dav/` its path is no text, and anything else is another server's
 abbrev pub fault_without_text : List ℕ → DestinationFault
 fault_without_text value = option_map_or (λ _. BadPath path_faults.NotText) (after_front (codes "/dav/") value) OtherServer
 
