@@ -1,2 +1,3 @@
+pub mod Shelved
 pub mod Drilled
 pub mod Parts

@@ -1,4 +1,4 @@
-use Rattle.std.proofs.Common.{◌≡◌, ◌≤◌, ◌⊎◌, List, ◌++◌, drop, take, length, ℕ, refl, sym, subst, arith}
+use Rattle.std.proofs.Common.{◌≡◌, ◌≤◌, ◌⊎◌, ◌==◌, ◌||◌, Bool, true, false, List, ◌++◌, drop, take, length, ℕ, refl, sym, ◌∙◌, ap, subst}
 use Rattle.std.specs.Prelude.{◌↔◌, Option, Some, None, Result, Ok, Err, IfOk, IfSome, OnErr}
 use Rattle.std.proofs.lemmas.Option.{same_Some}
 use Rattle.std.proofs.lemmas.Result.{on_err_weaker}
@@ -7,7 +7,7 @@ use mathlib.Core.Logic.{inl, inr}
 use Rattle.ocm_base.specs.Outside.{AppendsPart}
 use Rattle.ocm_disk.specs.declared.shelf.Place.{Place}
 use Rattle.ocm_commands.specs.Commands.{Gives, Writes, WritesPart}
-use Rattle.ocm_commands_files.specs.Commands.{GivesPlain, IsStatus, WritesPlain, WritesPlainPart, end_status, status_of}
+use Rattle.ocm_commands_files.specs.Commands.{GivesPlain, IsStatus, IsWhole, WritesPlain, WritesPlainPart, end_status, status_of}
 use Rattle.ocm_commands_files.specs.Words.{AreOf, AreOther, input_of, most_bytes}
 use Rattle.ocm_commands_files.specs.declared.ends.End.{End}
 use Rattle.ocm_commands_files.specs.declared.ends.End.TheVariants as whole
@@ -30,28 +30,52 @@ IsStatus-usage n (inr four) = inr (Err faults.WriteFault, four)
 pub not-other : (words : List (List ℕ)) (command : Command) → ((c : Command) → (Some command ≡ Some c) ↔ AreOf c words) → AreOther words → ⊥
 not-other words command read other = other command ((read command).0 refl)
 
--- a run whose text is whole has another status than 4 and 5
+-- whether it is the status of a run that ended early
+abbrev is_early : ℕ → Bool
+is_early n = (n == 3) || (n == 4) || (n == 5) || (n == 9)
+
+whole-status : (end : End) → is_early (end_status end) ≡ false
+whole-status whole.Done = refl
+whole-status _ = refl
+
+early-status : (fault : Fault) → is_early (status_of (Err fault)) ≡ true
+early-status faults.ReadFault = refl
+early-status _ = refl
+
+-- a run whose text is whole has another status than one that ended early
+apart : (end : End) (n m : ℕ) → n ≡ end_status end → n ≡ m → is_early m ≡ true → ⊥
+apart end n m is other early = (let wrong : false ≡ true = sym (ap is_early is ∙ whole-status end) ∙ ap is_early other ∙ early in absurd (cc))
+
 not-early : (end : End) (n : ℕ) → n ≡ end_status end → (n ≡ 4) ⊎ (n ≡ 5) → ⊥
-not-early whole.Done n is (inl early) = omega arith
-not-early whole.Done n is (inr early) = omega arith
-not-early whole.Script n is (inl early) = omega arith
-not-early whole.Script n is (inr early) = omega arith
-not-early whole.NotJournal n is (inl early) = omega arith
-not-early whole.NotJournal n is (inr early) = omega arith
-not-early whole.Record n is (inl early) = omega arith
-not-early whole.Record n is (inr early) = omega arith
-not-early whole.False n is (inl early) = omega arith
-not-early whole.False n is (inr early) = omega arith
+not-early end n is (inl four) = apart end n 4 is four refl
+not-early end n is (inr five) = apart end n 5 is five refl
 
 -- with the status 4 or 5 a run ended early
 early : (run : Result End Fault) (n : ℕ) (P : Type 0) → n ≡ status_of run → (n ≡ 4) ⊎ (n ≡ 5) → OnErr run P → P
 early (Ok end) n P is fault part = absurd (not-early end n is fault)
 early (Err e) n P is fault part = part
 
--- what a run wrote that ended early is a part of what the words' command writes
-pub run-part : (words : List (List ℕ)) (command c : Command) (run : Result End Fault) (n : ℕ) (left old new : Option (List ℕ)) → ((d : Command) → (Some command ≡ Some d) ↔ AreOf d words) → AreOf c words → n ≡ status_of run → (n ≡ 4) ⊎ (n ≡ 5) → OnErr run (IfSome (input_of command left) (λ bytes. WritesPart command bytes old new)) → IfSome (input_of c left) (λ bytes. WritesPart c bytes old new)
-run-part words command c run n left old new read are is fault part =
-    subst (λ d. IfSome (input_of d left) (λ bytes. WritesPart d bytes old new)) (same_Some command c ((read c).1 are)) (early run n _ is fault part)
+-- what holds of a run that ended early holds of the words' command
+pub run-early : (P : Command → List ℕ → Type 0) (words : List (List ℕ)) (command c : Command) (run : Result End Fault) (n : ℕ) (left : Option (List ℕ)) → ((d : Command) → (Some command ≡ Some d) ↔ AreOf d words) → AreOf c words → n ≡ status_of run → (n ≡ 4) ⊎ (n ≡ 5) → OnErr run (IfSome (input_of command left) (P command)) → IfSome (input_of c left) (P c)
+run-early P words command c run n left read are is fault part =
+    subst (λ d. IfSome (input_of d left) (P d)) (same_Some command c ((read c).1 are)) (early run n _ is fault part)
+
+-- with the input, where it is told
+with-input : (input : Option (List ℕ)) (P Q : List ℕ → Type 0) → ((bytes : List ℕ) → P bytes → Q bytes) → IfSome input P → IfSome input Q
+with-input None P Q gives holds = tt
+with-input (Some bytes) P Q gives holds = gives bytes holds
+
+-- what a run wrote whose text is whole is what the words' command writes
+whole-of : (command : Command) (run : Result End Fault) (n : ℕ) (left old new : Option (List ℕ)) (shelf : List Place) → n ≡ status_of run → IsWhole n
+    → IfOk run (λ end. IfSome (input_of command left) (λ bytes. Writes command bytes end old new shelf)) → IfSome (input_of command left) (λ bytes. (end : End) × (n ≡ end_status end) × Writes command bytes end old new shelf)
+whole-of command (Ok end) n left old new shelf is done wrote =
+    with-input (input_of command left) (λ bytes. Writes command bytes end old new shelf) (λ bytes. (e : End) × (n ≡ end_status e) × Writes command bytes e old new shelf) (λ bytes writes. (end, is, writes)) wrote
+whole-of command (Err fault) n left old new shelf is done wrote = absurd (apart done.0 n (status_of (Err fault)) done.1 is (early-status fault))
+
+pub run-whole : (words : List (List ℕ)) (command c : Command) (run : Result End Fault) (n : ℕ) (left old new : Option (List ℕ)) (shelf : List Place) → ((d : Command) → (Some command ≡ Some d) ↔ AreOf d words) → AreOf c words → n ≡ status_of run → IsWhole n
+    → IfOk run (λ end. IfSome (input_of command left) (λ bytes. Writes command bytes end old new shelf)) → IfSome (input_of c left) (λ bytes. (end : End) × (n ≡ end_status end) × Writes c bytes end old new shelf)
+run-whole words command c run n left old new shelf read are is done wrote =
+    subst (λ d. IfSome (input_of d left) (λ bytes. (end : End) × (n ≡ end_status end) × Writes d bytes end old new shelf)) (same_Some command c ((read c).1 are)) (whole-of command run n left old new shelf is done wrote)
 
 -- what a plain command gives is what the command gives, with any shelf
 plain-gives : (command : Command) (bytes : List ℕ) (end : End) (text : List ℕ) (shelf : Option (List Place)) → GivesPlain command bytes end text → Gives command bytes end text shelf

@@ -1,7 +1,14 @@
-use Rattle.std.specs.Prelude.{◌≡◌, ℕ, ◌≤◌, ◌⊎◌, List, ◌++◌, length, Option, Some, None}
+use Rattle.std.specs.Prelude.{◌≡◌, ℕ, ◌≤◌, ◌⊎◌, List, [], ◌++◌, length, Option, Some, None, Result, Ok, Err}
 use Rattle.ocm_base.specs.Outside.{Appends}
 use Rattle.ocm_disk.specs.declared.shelf.Place.{Place}
+use Rattle.ocm_drill.specs.Script.{made_script}
+use Rattle.ocm_script.specs.Script.{script_of}
+use Rattle.ocm_script.specs.declared.events.Event.{Event}
+use Rattle.ocm_world.specs.Shelves.{PrefixShelved}
 use Rattle.ocm_commands_files.specs.declared.ends.End.{End}
+use Rattle.ocm_commands_files.specs.declared.ends.End.TheVariants as ends
+use Rattle.ocm_commands_files.specs.declared.ends.Fault.{Fault}
+use Rattle.ocm_commands_files.specs.declared.ends.Fault.TheVariants as faults
 use Rattle.ocm_commands_files.specs.declared.words.Command.{Command}
 use Rattle.ocm_commands_files.specs.declared.words.Command.TheVariants as commands
 use Rattle.ocm_commands_files.specs.Commands.{GivesPlain}
@@ -24,3 +31,22 @@ abbrev pub WritesPart : Command → List ℕ → Option (List ℕ) → Option (L
 WritesPart command bytes old new =
     (new ≡ old)
     ⊎ ((length bytes ≤ most_bytes command) × (end : End) × (text : List ℕ) × (rest : List ℕ) × Appends old new text × Gives command bytes end (text ++ rest) None)
+
+-- on these bytes the command runs these events
+abbrev pub RunsEvents : Command → List ℕ → List Event → Type 0
+RunsEvents commands.Replay bytes events = script_of bytes ≡ Ok events
+RunsEvents (commands.Trace host) bytes events = script_of bytes ≡ Ok events
+RunsEvents (commands.Drill number count) bytes events = events ≡ made_script number count
+RunsEvents _ bytes events = ⊥
+
+-- The shelf of a command that ended early: it is empty, or the command runs events, and the shelf has the disks of the first
+-- servers that a run of some prefix of them leaves.
+abbrev pub LeavesPart : Command → List ℕ → List Place → Type 0
+LeavesPart command bytes places = (places ≡ []) ⊎ ((events : List Event) × RunsEvents command bytes events × PrefixShelved events places)
+
+-- a run with this end may put disks on the shelf: it was done, or ended early since the sink failed or memory ran out
+abbrev pub MayShelve : Result End Fault → Type 0
+MayShelve (Ok ends.Done) = Unit {0}
+MayShelve (Err faults.WriteFault) = Unit {0}
+MayShelve (Err faults.NoMemory) = Unit {0}
+MayShelve _ = ⊥

@@ -1,6 +1,7 @@
 -- What is written of a script: its transcript, what `logcheck` reads of one of its servers, or the summary of a drill.
 use Rattle.std.specs.Prelude.{◌≡◌, ℕ, ◌⊎◌, List, [], false, IsTrue, Option, Some, None, Ok, Err}
 use Rattle.std.specs.List.{list_any}
+use Rattle.ocm_texts.specs.Hex.{AreBytes}
 use Rattle.ocm_disk.specs.Shelf.{bytes_of, disk_of}
 use Rattle.ocm_disk.specs.declared.shelf.Place.{Place}
 use Rattle.ocm_drill.specs.Script.{made_script}
@@ -10,7 +11,8 @@ use Rattle.ocm_script.specs.declared.faults.ScriptFault.TheVariants as ends
 use Rattle.ocm_script_run.specs.Drills.{Texts, summary_of}
 use Rattle.ocm_script_run.specs.Servers.{World}
 use Rattle.ocm_world.specs.Shelves.{AreShelved}
-use Rattle.ocm_script_run.specs.Traces.{Logged, log_input, names}
+use Rattle.ocm_world.specs.Traces.{Traced}
+use Rattle.ocm_script_run.specs.Traces.{log_input, names}
 use Rattle.ocm_script_run.specs.Transcript.{Transcript}
 use Rattle.ocm_commands_files.specs.Lines.{bad_line}
 use Rattle.ocm_commands_files.specs.declared.ends.End.{End}
@@ -33,13 +35,14 @@ abbrev pub IfTold : Option (List Place) → List Place → Type 0
 IfTold (Some shelf) places = shelf ≡ places
 IfTold None places = Unit {0}
 
--- A run of the events leaves servers with these disks, which are put on the shelf, and logs the reads at the host. The text
--- is the image that the host's disk reads, and this log.
+-- A run of the events prints a transcript, leaves servers with these disks, which are put on the shelf, and logs the reads
+-- at the host but those at which the transcript shows that memory ran out. The text is the image that the host's disk
+-- reads, which is made of bytes, and this log.
 abbrev pub TracesRun : List ℕ → List Event → List ℕ → Option (List Place) → Type 0
 TracesRun host events text shelf =
-    (final : World) × (places : List Place) × (image log : List ℕ)
-    × Logged [] 1 host events log final × AreShelved final places × IfTold shelf places
-    × (bytes_of (disk_of host places) ≡ Some image) × (text ≡ log_input image log)
+    (final : World) × (places : List Place) × (transcript image log : List ℕ)
+    × Traced [] 1 host events transcript log final × AreShelved final places × IfTold shelf places
+    × AreBytes image × (bytes_of (disk_of host places) ≡ Some image) × (text ≡ log_input image log)
 
 -- A script that names the host gives the status 0, and what a run of it leaves and logs there. Bytes with a line that is no
 -- event give the status 2 and the number of the first such line, and a script that does not name the host the status 2

@@ -1,7 +1,7 @@
 ghost use Rattle.std.specs.Prelude.{◌≡◌, ◌≢◌, ◌⊎◌, ◌≤◌, [], OnOk, OnErr, IfOk, IfSome, length, true, false};
 ghost use Rattle.ocm_base.specs.Outside.{Appends, AppendsPart, Rose};
 ghost use Rattle.ocm_serve_options.specs.Plans.{texts};
-ghost use Rattle.ocm_commands.specs.Commands.{Writes, WritesPart};
+ghost use Rattle.ocm_commands.specs.Commands.{LeavesPart, MayShelve, Writes, WritesPart};
 ghost use Rattle.ocm_commands_files.specs.Commands.{IsLong, IsStatus, IsWhole, end_status, usage_line};
 ghost use Rattle.ocm_commands_files.specs.Words.{AreOf, AreOther, BeginTrace, IsSmall, input_of, most_bytes, reads};
 
@@ -57,6 +57,13 @@ pub fn command<S: Source, K: Sink>(
     ensures unwritten_length { result ≡ 9 → K.taken sink.new ≡ K.taken sink.old }
     ensures part { (c : Command) → AreOf c (texts words.now) → (result ≡ 4) ⊎ (result ≡ 5)
         → IfSome (input_of c (S.left source.old)) (λ bytes. WritesPart c bytes (K.taken sink.old) (K.taken sink.new)) }
+
+    // 4 and 5: the shelf is empty, or has the disks of servers that a prefix of the events leaves
+    ensures shelf_part { (c : Command) → AreOf c (texts words.now) → (result ≡ 4) ⊎ (result ≡ 5)
+        → IfSome (input_of c (S.left source.old)) (λ bytes. LeavesPart c bytes shelf.new) }
+
+    // all others but 0: the shelf is empty
+    ensures unshelved { (result ≡ 0) ⊎ (result ≡ 4) ⊎ (result ≡ 5) ⊎ (shelf.new ≡ []) }
 {
     match Command::read(alloc, words) {
         Ok(Some(command)) => status_of(run(alloc, &command, source, sink, shelf)),
@@ -79,6 +86,8 @@ fn run<S: Source, K: Sink>(
     ensures alone { reads command.now ≡ false → source.new ≡ source.old }
     ensures whole { IfOk result (λ end. IfSome (input_of command.now (S.left source.old)) (λ bytes. Writes command.now bytes end (K.taken sink.old) (K.taken sink.new) shelf.new)) }
     ensures part { OnErr result (IfSome (input_of command.now (S.left source.old)) (λ bytes. WritesPart command.now bytes (K.taken sink.old) (K.taken sink.new))) }
+    ensures shelf_part { OnErr result (IfSome (input_of command.now (S.left source.old)) (λ bytes. LeavesPart command.now bytes shelf.new)) }
+    ensures unshelved { MayShelve result ⊎ (shelf.new ≡ []) }
     ensures too_long { result ≡ Err Fault.TooLong → IfSome (input_of command.now (S.left source.old)) (IsLong command.now) }
     ensures unwritten_length { result ≡ Err Fault.TooLong → K.taken sink.new ≡ K.taken sink.old }
     ensures unwritten_fault { result ≡ Err Fault.ReadFault → K.taken sink.new ≡ K.taken sink.old }
@@ -104,6 +113,8 @@ fn run_on<K: Sink>(
     requires small { IsSmall command.now }
     ensures whole { IfOk result (λ end. Writes command.now bytes.now end (K.taken sink.old) (K.taken sink.new) shelf.new) }
     ensures part { OnErr result (WritesPart command.now bytes.now (K.taken sink.old) (K.taken sink.new)) }
+    ensures shelf_part { OnErr result (LeavesPart command.now bytes.now shelf.new) }
+    ensures unshelved { MayShelve result ⊎ (shelf.new ≡ []) }
     ensures too_long { result ≡ Err Fault.TooLong → IsLong command.now bytes.now }
     ensures unwritten { result ≡ Err Fault.TooLong → K.taken sink.new ≡ K.taken sink.old }
     ensures no_read_fault { result ≢ Err Fault.ReadFault }

@@ -1,6 +1,6 @@
-ghost use Rattle.std.specs.Prelude.{◌≡◌, ◌≢◌, ◌≤◌, [], OnErr, IfOk, List, ℕ, length};
+ghost use Rattle.std.specs.Prelude.{◌≡◌, ◌≢◌, ◌⊎◌, ◌≤◌, [], OnErr, IfOk, List, ℕ, length};
 ghost use Rattle.ocm_base.specs.Outside.{Rose};
-ghost use Rattle.ocm_commands.specs.Commands.{Writes, WritesPart};
+ghost use Rattle.ocm_commands.specs.Commands.{LeavesPart, MayShelve, Writes, WritesPart};
 ghost use Rattle.ocm_commands_files.specs.Words.{most_bytes};
 
 use ocm_base::Sink;
@@ -23,6 +23,8 @@ pub fn run_drill<K: Sink>(
         → IfOk result (λ end. Writes (Command.Drill number events) bytes end (K.taken sink.old) (K.taken sink.new) shelf.new) }
     ensures part { (bytes : List ℕ) → length bytes ≤ most_bytes (Command.Drill number events)
         → OnErr result (WritesPart (Command.Drill number events) bytes (K.taken sink.old) (K.taken sink.new)) }
+    ensures shelf_part { (bytes : List ℕ) → OnErr result (LeavesPart (Command.Drill number events) bytes shelf.new) }
+    ensures unshelved { MayShelve result ⊎ (shelf.new ≡ []) }
     ensures not_long { result ≢ Err Fault.TooLong }
     ensures no_read_fault { result ≢ Err Fault.ReadFault }
     ensures write_fault { result ≡ Err Fault.WriteFault → Rose (K.faults sink.old) (K.faults sink.new) }

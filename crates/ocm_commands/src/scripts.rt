@@ -1,6 +1,6 @@
-ghost use Rattle.std.specs.Prelude.{◌≡◌, ◌≢◌, ◌≤◌, [], OnErr, IfOk, length};
+ghost use Rattle.std.specs.Prelude.{◌≡◌, ◌≢◌, ◌⊎◌, ◌≤◌, [], OnErr, IfOk, length};
 ghost use Rattle.ocm_base.specs.Outside.{Rose};
-ghost use Rattle.ocm_commands.specs.Commands.{Writes, WritesPart};
+ghost use Rattle.ocm_commands.specs.Commands.{LeavesPart, MayShelve, Writes, WritesPart};
 ghost use Rattle.ocm_commands_files.specs.Commands.{IsLong};
 ghost use Rattle.ocm_commands_files.specs.Words.{most_bytes};
 
@@ -22,6 +22,8 @@ pub fn run_script<K: Sink>(
     requires empty { shelf.old ≡ [] }
     ensures whole { IfOk result (λ end. Writes Command.Replay bytes.now end (K.taken sink.old) (K.taken sink.new) shelf.new) }
     ensures part { OnErr result (WritesPart Command.Replay bytes.now (K.taken sink.old) (K.taken sink.new)) }
+    ensures shelf_part { OnErr result (LeavesPart Command.Replay bytes.now shelf.new) }
+    ensures unshelved { MayShelve result ⊎ (shelf.new ≡ []) }
     ensures too_long { result ≡ Err Fault.TooLong → IsLong Command.Replay bytes.now }
     ensures unwritten { result ≡ Err Fault.TooLong → K.taken sink.new ≡ K.taken sink.old }
     ensures no_read_fault { result ≢ Err Fault.ReadFault }

@@ -5,3 +5,4 @@ pub mod Keeping
 pub mod Logging
 pub mod Naming
 pub mod ScriptTexts
+pub mod Written

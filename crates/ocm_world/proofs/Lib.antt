@@ -3,5 +3,7 @@ pub mod Loading
 pub mod Growing
 pub mod Storing
 pub mod Shelving
+pub mod Fronts
 pub mod Hosts
 pub mod Logging
+pub mod Tracing

@@ -23,7 +23,7 @@ next-same host g other None next same (inr is) = absurd is
 next-same host g other (Some ask) next same (inr is) =
     inr (is ∙ ap (λ e. lean host (e ∷ g)) (heard-same host g other ask same) ∙ lean-goes_on host (heard host other ask) g other same)
 
-shelved-one : (node : Node) (server : Server) → IsOf node server → IsShelved server (shelved node)
+pub shelved-one : (node : Node) (server : Server) → IsOf node server → IsShelved server (shelved node)
 shelved-one node server is =
     let reads : LeavesNext (record { host = server.host; area = area }) is.opened server.calls None (disk_of node.store).images.seen =
     subst (λ (t : Terms). LeavesNext t is.opened server.calls None (disk_of node.store).images.seen) is.terms (is.stands.reads tt) in

@@ -1,10 +1,10 @@
 //! The servers of a script.
-ghost use Rattle.std.specs.Prelude.{◌≡◌, ◌∷◌, ◌++◌, [], OnOk, None, Some, position};
+ghost use Rattle.std.specs.Prelude.{◌≡◌, ◌∷◌, ◌++◌, [], OnOk, OnErr, None, Some, position};
 ghost use Rattle.ocm_disk.specs.Memory.{settled};
 ghost use Rattle.ocm_disk.specs.Shelf.{refusal};
 ghost use Rattle.ocm_world.specs.Running.{AreOf, is_at, shelved};
 ghost use Rattle.ocm_script_run.specs.Servers.{World};
-ghost use Rattle.ocm_world.specs.Shelves.{AreShelved};
+ghost use Rattle.ocm_world.specs.Shelves.{AreShelved, FirstShelved};
 
 use crate::nodes::{Node, load};
 use ocm_base::{Bytes, NoMemory};
@@ -42,10 +42,12 @@ impl Servers {
         }
     }
 
-    /// Puts the disk of each server on a shelf that is empty.
+    /// Puts the disk of each server on a shelf that is empty. Where memory runs out, the shelf has the disks
+    /// of the first of them.
     pub fn shelve(self, shelf: &mut Shelf) -> Result<(), NoMemory>
         requires { shelf.old ≡ [] }
-        ensures { OnOk result ((world : World) → AreOf self world → AreShelved world shelf.new) }
+        ensures ok { OnOk result ((world : World) → AreOf self world → AreShelved world shelf.new) }
+        ensures err { OnErr result ((world : World) → AreOf self world → FirstShelved world shelf.new) }
     {
         for node in self.nodes {
             shelve(shelf, node)?;
@@ -134,9 +136,10 @@ impl ScriptServers for Servers {
     }
 }
 
-/// Puts the disk of a server on the shelf, at a place of its own.
+/// Puts the disk of a server on the shelf, at a place of its own. Where memory runs out, the shelf stays as it is.
 fn shelve(shelf: &mut Shelf, node: Node) -> Result<(), NoMemory>
-    ensures { OnOk result (shelf.new ≡ shelf.old ++ shelved node ∷ []) }
+    ensures ok { OnOk result (shelf.new ≡ shelf.old ++ shelved node ∷ []) }
+    ensures err { OnErr result (shelf.new ≡ shelf.old) }
 {
     let (host, disk) = node.into_parts();
     let put = put_at(shelf, &host, disk);
@@ -144,9 +147,10 @@ fn shelve(shelf: &mut Shelf, node: Node) -> Result<(), NoMemory>
     put
 }
 
-/// Puts a disk on the shelf, at a place of its own with this host.
+/// Puts a disk on the shelf, at a place of its own with this host. Where memory runs out, the shelf stays as it is.
 fn put_at(shelf: &mut Shelf, host: &Host, disk: MemDisk) -> Result<(), NoMemory>
-    ensures { OnOk result (shelf.new ≡ shelf.old ++ record { host = host.now; disk = Some disk } ∷ []) }
+    ensures ok { OnOk result (shelf.new ≡ shelf.old ++ record { host = host.now; disk = Some disk } ∷ []) }
+    ensures err { OnErr result (shelf.new ≡ shelf.old) }
 {
     match add_place(shelf, host) {
         Ok(()) => {
@@ -162,10 +166,11 @@ fn put_at(shelf: &mut Shelf, host: &Host, disk: MemDisk) -> Result<(), NoMemory>
     }
 }
 
-/// A place for a host, which has none yet.
+/// A place for a host, which has none yet. Where memory runs out, the shelf stays as it is.
 fn add_place(shelf: &mut Shelf, host: &Host) -> Result<(), NoMemory>
     ensures ok { OnOk result (shelf.new ≡ shelf.old ++ record { host = host.now; disk = Some (settled [] 0) } ∷ []) }
     ensures free { OnOk result (refusal host.now shelf.old ≡ None) }
+    ensures err { OnErr result (shelf.new ≡ shelf.old) }
 {
     match shelf.add(host.copy()?) {
         Ok(()) => Ok(()),

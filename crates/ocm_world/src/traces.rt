@@ -8,7 +8,7 @@ ghost use Rattle.ocm_disk.specs.Shelf.{bytes_of, disk_of};
 ghost use Rattle.ocm_script.specs.Events.{has_short_paths};
 ghost use Rattle.ocm_script_run.specs.Servers.{World};
 ghost use Rattle.ocm_script_run.specs.Traces as traced;
-ghost use Rattle.ocm_world.specs.Shelves.{AreShelved};
+ghost use Rattle.ocm_world.specs.Shelves.{AllShelved, AreShelved, PrefixShelved};
 ghost use Rattle.ocm_world.specs.Traces.{Traces, TracesPart};
 
 use crate::servers::Servers;
@@ -21,9 +21,11 @@ use std::alloc::Global;
 
 /// Runs a script, and writes the journal image and the access log of one of its servers: the length of
 /// the image in eight bytes, the highest first; the image that the server's disk has at the end; and a
-/// line for each read of the script at this server. A read that ran out of memory has no line. The disk
-/// of each server is on the shelf before the first write. If the sink fails, a prefix of all that was
-/// written; if memory runs out, nothing. [`names`] tells whether the script names the host.
+/// line for each read of the script at this server. A read has no line exactly where the transcript of the
+/// run shows that memory ran out at it. The disk of each server is on the shelf before the first write. If
+/// the sink fails, a prefix of all that was written; if memory runs out, nothing, and the shelf has the
+/// disks of the first servers that a prefix of the script leaves, or of none. [`names`] tells whether the
+/// script names the host.
 pub fn trace<K: Sink>(
     alloc: Global,
     events: &List<Event>,
@@ -36,9 +38,10 @@ pub fn trace<K: Sink>(
     requires named { IsTrue (list_any (traced.names host.now) events.now) }
     requires empty { shelf.old ≡ [] }
     ensures ok { OnOk result ((final : World) × Traces events.now host.now (K.taken sink.old) (K.taken sink.new) final shelf.new × AreShelved final shelf.new) }
-    ensures err { OnErr result ((K.taken sink.new ≡ K.taken sink.old) ⊎ TracesPart events.now host.now (K.taken sink.old) (K.taken sink.new)) }
+    ensures err { OnErr result ((K.taken sink.new ≡ K.taken sink.old) ⊎ ((final : World) × TracesPart events.now host.now (K.taken sink.old) (K.taken sink.new) final shelf.new)) }
     ensures unwritten { result ≡ Err WorldFault.NoMemory → K.taken sink.new ≡ K.taken sink.old }
-    ensures shelved { result ≡ Err WorldFault.WriteFault → (final : World) × AreShelved final shelf.new }
+    ensures shelved { result ≡ Err WorldFault.WriteFault → AllShelved events.now shelf.new }
+    ensures shelf_part { OnErr result (PrefixShelved events.now shelf.new) }
     ensures bytes { OnOk result (IfSome (bytes_of (disk_of host.now shelf.new)) AreBytes) }
     ensures rose { result ≡ Err WorldFault.WriteFault → Rose (K.faults sink.old) (K.faults sink.new) }
     ensures never_falls { K.faults sink.old ≤ K.faults sink.new }

@@ -3,6 +3,6 @@ use Rattle.ocm_disk.specs.Memory.{DiskState}
 use Rattle.ocm_disk.specs.declared.shelf.Place.{Place}
 use Rattle.ocm_world.proofs.servers.shelve.Goals as goal
 
-pub returns : goal.returns
-returns c = subst (λ (parts : List ℕ × DiskState). OnOk c.put_at-put.result (c.put_at-put.new.shelf ≡ c.args.shelf.now ++ (let p : Place = record { host = parts.0; disk = Some parts.1 } in p) ∷ []))
-    c.into_parts-host.ensures c.put_at-put.ensures
+pub returns-clause-ok : goal.returns-clause-ok
+returns-clause-ok c = subst (λ (parts : List ℕ × DiskState). OnOk c.put_at-put.result (c.put_at-put.new.shelf ≡ c.args.shelf.now ++ (let p : Place = record { host = parts.0; disk = Some parts.1 } in p) ∷ []))
+    c.into_parts-host.ensures c.put_at-put.ensures.ok
