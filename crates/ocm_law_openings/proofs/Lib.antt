@@ -1,0 +1,4 @@
+pub mod OneHistory
+pub mod Repeating
+pub mod Lives
+pub mod Promises

@@ -1,0 +1,5 @@
+pub mod Chains
+pub mod Holders
+pub mod Granting
+pub mod Tables
+pub mod Answering

@@ -1,0 +1,4 @@
+pub mod Requests
+pub mod Links
+pub mod Served
+pub mod Wrong
