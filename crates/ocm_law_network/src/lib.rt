@@ -10,4 +10,5 @@ pub mod carried;
 pub mod cases;
 pub mod laws;
 pub mod logs;
+pub mod promises;
 pub mod working;

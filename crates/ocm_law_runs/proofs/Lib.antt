@@ -8,3 +8,6 @@ pub mod Talking
 pub mod Lines
 pub mod Printing
 pub mod Transcripts
+pub mod Cutting
+pub mod Replying
+pub mod Requests

@@ -1,5 +1,5 @@
 -- The lines of a script are runs.
-use Rattle.std.proofs.Common.{◌≡◌, ℕ, ◌+◌, List, [], ◌∷◌, Bool, false, refl, sym, subst, Option, Some, None, Ok, Err}
+use Rattle.std.proofs.Common.{◌≡◌, ℕ, ◌+◌, List, [], ◌∷◌, Bool, true, false, refl, sym, subst, Option, Some, None, Ok, Err}
 use Rattle.ocm_entry.specs.declared.asks.Ask.{Ask}
 use Rattle.ocm_entry.specs.declared.asks.Ask.TheVariants.{Tick}
 use Rattle.ocm_law_world.specs.World.{World, empty, is_settlement}
@@ -8,13 +8,13 @@ use Rattle.ocm_script.specs.declared.events.Event.TheVariants.{Quiet, Node, User
 use Rattle.ocm_script_run.specs.Deliveries as lines
 use Rattle.ocm_script_run.specs.Deliveries.{next_wanting}
 use Rattle.ocm_script_run.specs.Servers.{Server, is_kept, server_at, step_at}
-use Rattle.ocm_script_run.specs.Talks.{config_of}
+use Rattle.ocm_script_run.specs.Talks.{bytes_alone, config_of}
 use Rattle.ocm_script_run.specs.Transcript.{IsRun, Talked, Transcript, plain, run}
 use Rattle.ocm_law_runs.specs.Standing.{Stands}
 use Rattle.ocm_law_runs.proofs.Asking.{asked-run, crashes-run, named-run}
 use Rattle.ocm_law_runs.proofs.Delivering.{deliver-run, pump-run}
-use Rattle.ocm_law_runs.proofs.Steps.{IsAlone, Reaches, reaches-on, run-on, stands-same, stays, with-server, with-stands}
-use Rattle.ocm_law_runs.proofs.Talking.{says-run}
+use Rattle.ocm_law_runs.proofs.Steps.{IsAlone, Reaches, With, reaches-on, run-on, stands-same, stays, with-server, with-stands}
+use Rattle.ocm_law_runs.proofs.Talking.{calls-run, talk-plain}
 
 -- ---- lines that ask
 
@@ -35,9 +35,11 @@ talked-run : (w : World) (servers : List Server) (number : ℕ) (host fresh byte
     → Talked servers number host fresh bytes o line → Reaches w (λ later. Stands later line.world)
 talked-run w servers number host fresh bytes None line none stands same = subst (λ (l : lines.Run). Reaches w (λ later. Stands later l.world)) (sym same) (stays _ w stands)
 talked-run w servers number host fresh bytes (Some server) line there stands (after, text, says, same) =
-    let at = says-run (config_of server.host) number fresh w servers host 0 0 bytes server after text says (with-server w servers host server stands there) in
+    let plain = talk-plain (config_of server.host) bytes_alone 0 0 bytes true says.drawn says.clocks says.calls says.written says.ending refl says.talk in
+    let at = calls-run w servers host server says.calls plain says.replies (with-server w servers host server stands there) in
+    let with : With servers host after at.0 = subst (λ (s : Server). With servers host s at.0) (sym says.is_after) at.2 in
     subst (λ (l : lines.Run). Reaches w (λ later. Stands later l.world)) (sym same)
-    (at.0, at.1, with-stands at.0 servers host (λ _. after) server (λ s own. at.2.own) there at.2)
+    (at.0, at.1, with-stands at.0 servers host (λ _. after) server (λ s own. with.own) there with)
 
 -- ---- one line
 

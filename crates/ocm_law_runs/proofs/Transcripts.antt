@@ -41,13 +41,15 @@ use Rattle.ocm_script_run.specs.Asked.{shows_digits}
 use Rattle.ocm_script_run.specs.Deliveries as lines
 use Rattle.ocm_script_run.specs.Deliveries.{next_wanting}
 use Rattle.ocm_script_run.specs.Servers.{Server, area, asked_at, history, reply_of, server_after, server_at}
+use Rattle.ocm_script_run.specs.Talks.{bytes_alone, config_of}
 use Rattle.ocm_script_run.specs.Transcript.{IsRun, Transcript, asked}
-use Rattle.ocm_law_runs.specs.Standing.{IsEnded, IsMade, IsRefused, Stands, UsesSecret, kept_at, session_of}
+use Rattle.ocm_law_runs.specs.Standing.{IsEnded, IsMade, IsRefused, RefusesRequests, Stands, UsesSecret, kept_at, session_of}
 use Rattle.ocm_law_runs.proofs.Finding.{has-host, stepped-here}
 use Rattle.ocm_law_runs.proofs.Lines.{line-run, transcript-run}
 use Rattle.ocm_law_runs.proofs.Printing.{end-done, no_memory-text, unauthorized-text, unshare-reply}
 use Rattle.ocm_law_runs.proofs.Replies.{reply-legal}
-use Rattle.ocm_law_runs.proofs.Steps.{IsAlone, run-on}
+use Rattle.ocm_law_runs.proofs.Steps.{IsAlone, run-on, with-server}
+use Rattle.ocm_law_runs.proofs.Talking.{calls-refused, talk-plain, talk-refused}
 
 -- no servers, and no sessions
 pub reached-from : (events : List Event) (text : List ℕ) (final : List Server) → Transcript [] 1 events text final → (w : World) × IsAlone w × Stands w final
@@ -56,7 +58,7 @@ reached-from events text final transcript = transcript-run empty [] final 1 even
 -- ---- from a world to the servers that it stands for, and back
 
 -- a session is that of a server
-server-of : (w : World) (servers : List Server) (host : List ℕ) (s : Session) → Stands w servers → w.session host ≡ Some s → (server : Server) × (server_at servers host ≡ Some server) × (session_of server ≡ s)
+pub server-of : (w : World) (servers : List Server) (host : List ℕ) (s : Session) → Stands w servers → w.session host ≡ Some s → (server : Server) × (server_at servers host ≡ Some server) × (session_of server ≡ s)
 server-of w servers host s stands is = by_case (server_at servers host) refl
   where
     by_case : (o : Option Server) → server_at servers host ≡ o → (server : Server) × (server_at servers host ≡ Some server) × (session_of server ≡ s)
@@ -76,7 +78,7 @@ of-session P w servers host stands (s, is, p) =
     (at.0, at.1, subst P (sym at.2) p)
 
 -- what a line prints that asks the server of a host
-told-text : (number : ℕ) (shown b : Bool) (servers : List Server) (host : List ℕ) (ask : Ask) (server : Server) → server_at servers host ≡ Some server
+pub told-text : (number : ℕ) (shown b : Bool) (servers : List Server) (host : List ℕ) (ask : Ask) (server : Server) → server_at servers host ≡ Some server
     → (asked b servers number shown host ask).text ≡ reply_lines number shown (reply_of b server ask)
 told-text number shown b servers host ask server there = ap (λ o. option_map_or (λ reply. reply_lines number shown reply) (option_map (λ s. reply_of b s ask) o) []) there
 
@@ -104,7 +106,7 @@ world-ended : (w : World) (servers : List Server) (host : List ℕ) (i : ℕ) (m
 world-ended w servers host i m stands (server, there, is, ended) = (session_of server, session-at w servers host server stands there, is, ended)
 
 -- it has ended after all further lines
-ended-on : (w : World) (servers final : List Server) (number : ℕ) (events : List Event) (text : List ℕ) (host : List ℕ) (i : ℕ) (m : Share) → IsAlone w → Stands w servers
+pub ended-on : (w : World) (servers final : List Server) (number : ℕ) (events : List Event) (text : List ℕ) (host : List ℕ) (i : ℕ) (m : Share) → IsAlone w → Stands w servers
     → Transcript servers number events text final → IsEnded servers host i m → IsEnded final host i m
 ended-on w servers final number events text host i m reached stands goes_on ended =
     let later = transcript-run w servers final number events text reached stands goes_on in
@@ -131,7 +133,7 @@ refused-asked number shown b servers host ask server there law = by_reply (law (
     by_reply (inr told) = inr (printed NoMemory told ∙ no_memory-text number shown)
 
 -- what a line prints that asks for files with its secret
-refused-line : (w : World) (servers : List Server) (number : ℕ) (host : List ℕ) (i : ℕ) (m : Share) (e : Event) (line : lines.Run) → IsAlone w → Stands w servers
+pub refused-line : (w : World) (servers : List Server) (number : ℕ) (host : List ℕ) (i : ℕ) (m : Share) (e : Event) (line : lines.Run) → IsAlone w → Stands w servers
     → IsEnded servers host i m → UsesSecret host m.secret e → IsRun servers number e line → IsRefused number line
 refused-line w servers number host i m (Dav h s method path) line reached stands ended (same_host, same_secret) is =
     let run = subst (λ x. IsRun servers number (Dav host x method path) line) same_secret (subst (λ x. IsRun servers number (Dav x s method path) line) same_host is) in
@@ -155,6 +157,19 @@ pub ended-refused : (events : List Event) (text : List ℕ) (servers : List Serv
 ended-refused events text servers number host i m e line transcript ended uses is =
     let at = reached-from events text servers transcript in
     refused-line at.0 servers number host i m e line at.1 at.2 ended uses is
+
+-- what a `raw` line does that asks for files with its secret
+pub refused-requests : (w : World) (servers : List Server) (number : ℕ) (host : List ℕ) (i : ℕ) (m : Share) → IsAlone w → Stands w servers → IsEnded servers host i m → RefusesRequests servers number host m.secret
+refused-requests w servers number host i m reached stands ended server after fresh bytes text there line =
+    let plain = talk-plain (config_of server.host) bytes_alone 0 0 bytes true line.drawn line.clocks line.calls line.written line.ending refl line.talk in
+    let are = calls-refused servers host i m w server line.calls reached (world-ended w servers host i m stands ended) (with-server w servers host server stands there) plain line.replies in
+    (are, talk-refused m.secret server line.talk line.replies are)
+
+pub ended-requests : (events : List Event) (text : List ℕ) (servers : List Server) (number : ℕ) (host : List ℕ) (i : ℕ) (m : Share) → Transcript [] 1 events text servers → IsEnded servers host i m
+    → RefusesRequests servers number host m.secret
+ended-requests events text servers number host i m transcript ended =
+    let at = reached-from events text servers transcript in
+    refused-requests at.0 servers number host i m at.1 at.2 ended
 
 -- ---- what an owner ended
 
@@ -192,17 +207,21 @@ unshare-done number b servers host key id first there printed =
     ask : Ask
     ask = asks.Local key (Unshare id)
 
-pub unshared-refused : (events further : List Event) (text more : List ℕ) (servers final : List Server) (number next place : ℕ) (host key : List ℕ) (id i : ℕ) (server : Server) (m : Share) (e : Event) (unshare line : lines.Run)
+-- after an `unshare` that printed `204`, and further lines
+unshared-later : (events further : List Event) (text more : List ℕ) (servers final : List Server) (number next : ℕ) (host key : List ℕ) (id i : ℕ) (server : Server) (m : Share) (unshare : lines.Run)
     → Transcript [] 1 events text servers → IsRun servers number (Local host key (Unshare id)) unshare → unshare.text ≡ line_text number (codes "204")
     → server_at unshare.world host ≡ Some server → at_number (made host (kept_at host server)) i ≡ Some m → is_at_or_below host (kept_at host server) id i ≡ true
-    → Transcript unshare.world next further more final → UsesSecret host m.secret e → IsRun final place e line → IsRefused place line
-unshared-refused events further text more servers final number next place host key id i server m e unshare line transcript (wanting, same) printed after is below goes_on uses asks_so =
+    → Transcript unshare.world next further more final → (w : World) × IsAlone w × Stands w final × IsEnded final host i m
+unshared-later events further text more servers final number next host key id i server m unshare transcript (wanting, same) printed after is below goes_on =
     let at = reached-from events text servers transcript in
     let mid = line-run at.0 servers number (Local host key (Unshare id)) unshare at.1 at.2 (wanting, same) in
     let reached = run-on empty at.0 mid.0 at.1 mid.1 in
-    let later = transcript-run mid.0 unshare.world final next further more reached mid.2 goes_on in
-    refused-line later.0 final place host i m e line (run-on empty mid.0 later.0 reached later.1) later.2
-    (ended-on mid.0 unshare.world final next further more host i m reached mid.2 goes_on (server, after, is, by_server (server_at servers host) refl)) uses asks_so
+    let later = transcript-run mid.0 unshare.world final next further more reached mid.2 goes_on in (
+      later.0,
+      run-on empty mid.0 later.0 reached later.1,
+      later.2,
+      ended-on mid.0 unshare.world final next further more host i m reached mid.2 goes_on (server, after, is, by_server (server_at servers host) refl),
+    )
   where
     ask : Ask
     ask = asks.Local key (Unshare id)
@@ -219,3 +238,19 @@ unshared-refused events further text more servers final number next place host k
     by_server (Some first) here =
         done-ended servers b host key id i m first server here
         (unshare-done number b servers host key id first here (sym (ap (λ (l : lines.Run). l.text) same) ∙ printed)) there is below
+
+pub unshared-refused : (events further : List Event) (text more : List ℕ) (servers final : List Server) (number next place : ℕ) (host key : List ℕ) (id i : ℕ) (server : Server) (m : Share) (e : Event) (unshare line : lines.Run)
+    → Transcript [] 1 events text servers → IsRun servers number (Local host key (Unshare id)) unshare → unshare.text ≡ line_text number (codes "204")
+    → server_at unshare.world host ≡ Some server → at_number (made host (kept_at host server)) i ≡ Some m → is_at_or_below host (kept_at host server) id i ≡ true
+    → Transcript unshare.world next further more final → UsesSecret host m.secret e → IsRun final place e line → IsRefused place line
+unshared-refused events further text more servers final number next place host key id i server m e unshare line transcript run printed after is below goes_on uses asks_so =
+    let later = unshared-later events further text more servers final number next host key id i server m unshare transcript run printed after is below goes_on in
+    refused-line later.0 final place host i m e line later.1 later.2 later.3 uses asks_so
+
+pub unshared-requests : (events further : List Event) (text more : List ℕ) (servers final : List Server) (number next place : ℕ) (host key : List ℕ) (id i : ℕ) (server : Server) (m : Share) (unshare : lines.Run)
+    → Transcript [] 1 events text servers → IsRun servers number (Local host key (Unshare id)) unshare → unshare.text ≡ line_text number (codes "204")
+    → server_at unshare.world host ≡ Some server → at_number (made host (kept_at host server)) i ≡ Some m → is_at_or_below host (kept_at host server) id i ≡ true
+    → Transcript unshare.world next further more final → RefusesRequests final place host m.secret
+unshared-requests events further text more servers final number next place host key id i server m unshare transcript run printed after is below goes_on =
+    let later = unshared-later events further text more servers final number next host key id i server m unshare transcript run printed after is below goes_on in
+    refused-requests later.0 final place host i m later.1 later.2 later.3

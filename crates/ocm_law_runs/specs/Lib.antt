@@ -1,2 +1,3 @@
 pub mod Standing
 pub mod Wrong
+pub mod Promises

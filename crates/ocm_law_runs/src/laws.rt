@@ -17,7 +17,7 @@ ghost use Rattle.ocm_script.specs.declared.events.Event.TheVariants.{Local};
 ghost use Rattle.ocm_script_run.specs.Deliveries.{Run};
 ghost use Rattle.ocm_script_run.specs.Servers.{Server, area, history, server_at};
 ghost use Rattle.ocm_script_run.specs.Transcript.{IsRun, Transcript};
-ghost use Rattle.ocm_law_runs.specs.Standing.{IsEnded, IsMade, IsRefused, UsesSecret, kept_at};
+ghost use Rattle.ocm_law_runs.specs.Standing.{IsEnded, IsMade, IsRefused, RefusesRequests, UsesSecret, kept_at};
 
 /// The calls at each server are those of a session after what its disk opened to last, and so its
 /// history is a legal one.
@@ -44,17 +44,26 @@ pub fn what_has_ended_stays_ended_in_a_transcript()
 {}
 
 /// A line `get`, `head`, `list0`, `list1`, `mkcol`, `put`, `delete`, `copy` or `move` with the secret of a
-/// share that has ended prints `401 unauthorized`, or `500 no memory`.
+/// share that has ended prints `401 unauthorized`, or `500 no memory`. So does each request in a `raw` line that
+/// asks for files with it: its call is refused, and its page is that of this refusal. Where the tick before it
+/// failed there is no such call, and its page is that of the tick's reply.
 pub fn what_has_ended_is_refused_in_a_transcript()
-    ensures { (events : List Event) (text : List ℕ) (servers : List Server) (number : ℕ) (host : List ℕ) (i : ℕ) (m : Share) (e : Event) (line : Run)
+    ensures line { (events : List Event) (text : List ℕ) (servers : List Server) (number : ℕ) (host : List ℕ) (i : ℕ) (m : Share) (e : Event) (line : Run)
         → Transcript [] 1 events text servers → IsEnded servers host i m → UsesSecret host m.secret e → IsRun servers number e line → IsRefused number line }
+    ensures requests { (events : List Event) (text : List ℕ) (servers : List Server) (number : ℕ) (host : List ℕ) (i : ℕ) (m : Share)
+        → Transcript [] 1 events text servers → IsEnded servers host i m → RefusesRequests servers number host m.secret }
 {}
 
 /// Once a line `unshare` has printed `204`, each such line with the secret of that share, or of one below
-/// it, prints `401 unauthorized`, or `500 no memory`: whatever the lines between did, and whatever crashed.
+/// it, prints `401 unauthorized`, or `500 no memory`, and each such request in a `raw` line is refused: whatever
+/// the lines between did, and whatever crashed.
 pub fn what_was_unshared_is_refused_ever_after()
-    ensures { (events further : List Event) (text more : List ℕ) (servers final : List Server) (number next place : ℕ) (host key : List ℕ) (id i : ℕ) (server : Server) (m : Share) (e : Event) (unshare line : Run)
+    ensures line { (events further : List Event) (text more : List ℕ) (servers final : List Server) (number next place : ℕ) (host key : List ℕ) (id i : ℕ) (server : Server) (m : Share) (e : Event) (unshare line : Run)
         → Transcript [] 1 events text servers → IsRun servers number (Local host key (Unshare id)) unshare → unshare.text ≡ line_text number (codes "204")
         → server_at unshare.world host ≡ Some server → at_number (made host (kept_at host server)) i ≡ Some m → IsTrue (is_at_or_below host (kept_at host server) id i)
         → Transcript unshare.world next further more final → UsesSecret host m.secret e → IsRun final place e line → IsRefused place line }
+    ensures requests { (events further : List Event) (text more : List ℕ) (servers final : List Server) (number next place : ℕ) (host key : List ℕ) (id i : ℕ) (server : Server) (m : Share) (ended : Run)
+        → Transcript [] 1 events text servers → IsRun servers number (Local host key (Unshare id)) ended → ended.text ≡ line_text number (codes "204")
+        → server_at ended.world host ≡ Some server → at_number (made host (kept_at host server)) i ≡ Some m → IsTrue (is_at_or_below host (kept_at host server) id i)
+        → Transcript ended.world next further more final → RefusesRequests final place host m.secret }
 {}

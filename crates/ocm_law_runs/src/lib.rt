@@ -7,4 +7,5 @@
 
 pub mod laws;
 pub mod runs;
+pub mod scripts;
 pub mod wrong;
