@@ -7,20 +7,18 @@ use Rattle.ocm_types.specs.Draws.{fresh_plus}
 use Rattle.ocm_types.specs.declared.letters.Numbered.{Numbered}
 use Rattle.ocm_entry.specs.declared.asks.Ask.{Ask}
 use Rattle.ocm_entry.specs.declared.asks.Ask.TheVariants.{Due, Tick}
+use Rattle.ocm_entry.specs.declared.entries.Entry.{Entry}
 use Rattle.ocm_entry.specs.declared.replies.Reply.{Reply}
 use Rattle.ocm_entry.specs.declared.replies.Reply.TheVariants as replies
 use Rattle.ocm_rules.specs.Numbers.{same_text}
-use Rattle.ocm_dav.specs.declared.configs.Config.{Config}
-use Rattle.ocm_dav.specs.declared.wants.Wanted.{Wanted}
-use Rattle.ocm_dav.specs.declared.wants.Wanted.TheVariants as wants
 use Rattle.ocm_script.specs.declared.events.Event.{Event}
 use Rattle.ocm_script.specs.declared.events.Event.TheVariants as events
 use Rattle.ocm_script.specs.Events.{host_of}
-use Rattle.ocm_script_run.specs.Asked.{ask_of}
 use Rattle.ocm_entry.specs.Deliveries.{letter_ask}
-use Rattle.ocm_script_run.specs.Servers.{Server, World, new_server, reply_at, message_at, server_after, server_at, step_at, asked_at, crashed, is_kept, restart}
+use Rattle.ocm_script_run.specs.Asked.{ask_of}
+use Rattle.ocm_script_run.specs.Servers.{Server, World, new_server, reply_at, message_at, server_after, server_at, step_at, asked_at, crashed, is_kept, restart, with_call}
 use Rattle.ocm_script_run.specs.Deliveries.{Run, next_wanting, others_wanting, settlement, answered, given, unreachable, delivered, all_delivered, nothing, pumped, pump, deliver}
-use Rattle.ocm_script_run.specs.Talks.{Says, Replied, Answers, after_tick, asked_of, is_done, replied}
+use Rattle.ocm_script_run.specs.Talks.{Replies, after_calls}
 use Rattle.ocm_script_run.specs.Transcript.{Talked, named, clocked, plain, run}
 use Rattle.ocm_script_run.specs.Traces.{IsLogged}
 
@@ -203,39 +201,14 @@ kept-pump Q P stays wanting world number sender fresh host has = by (reply_at (n
 abbrev Goes : (Server → Type 0) → Server → Server → Type 0
 Goes P server after = (after.host ≡ server.host) × (P server → P after)
 
-goes-asked : (P : Server → Type 0) → Stays P → (wanting : Bool) (server : Server) (ask : Ask) → Goes P server (asked_of wanting server ask).1
-goes-asked P stays wanting server ask = (refl, λ h. stays.asked wanting server ask h)
-
-goes-replied : (P : Server → Type 0) → Stays P → (first second : Bool) (server : Server) (ask : Ask) → Goes P server (replied first second server ask).1
-goes-replied P stays first second server ask = by (is_done ticked.0)
-  where
-    ticked : Replied
-    ticked = asked_of first server (Tick server.clock)
-
-    by : (done : Bool) → Goes P server (after_tick done second ticked ask).1
-    by true = (refl, λ h. stays.asked second ticked.1 ask (stays.asked first server (Tick server.clock) h))
-    by false = goes-asked P stays first server (Tick server.clock)
+goes-calls : (P : Server → Type 0) → Stays P → (server : Server) (calls : List Entry) → Replies server calls → Goes P server (after_calls server calls)
+goes-calls P stays server [] made = (refl, λ h. h)
+goes-calls P stays server (call ∷ older) (made, wanting, is) =
+    let before = goes-calls P stays server older made in
+    (before.0, λ h. subst (λ (r : Reply). P (with_call (after_calls server older) call.ask r)) (sym is) (stays.asked wanting (after_calls server older) call.ask (before.1 h)))
 
 is_after : (P : Server → Type 0) (server after mid : Server) → after ≡ mid → Goes P server mid → Goes P server after
 is_after P server after mid same goes = subst (λ (s : Server). Goes P server s) (sym same) goes
-
-goes-answered : (P : Server → Type 0) → Stays P → (wanted : Wanted) (server after : Server) (page : Option (List ℕ)) → Answers wanted server after page → Goes P server after
-goes-answered P stays (wants.Page page) server after (Some bytes) is = is_after P server after server is.0 (refl, λ h. h)
-goes-answered P stays (wants.Page page) server after None is = is_after P server after server is (refl, λ h. h)
-goes-answered P stays (wants.Ask ask shape) server after (Some bytes) is = is_after P server after (replied is.0 is.1 server ask).1 is.2.0 (goes-replied P stays is.0 is.1 server ask)
-goes-answered P stays (wants.Ask ask shape) server after None (inl same) = is_after P server after server same (refl, λ h. h)
-goes-answered P stays (wants.Ask ask shape) server after None (inr is) = is_after P server after (replied is.0 is.1 server ask).1 is.2 (goes-replied P stays is.0 is.1 server ask)
-
-goes-said : (P : Server → Type 0) → Stays P → {config : Config} {line : ℕ} {fresh : List ℕ} (number place : ℕ) (bytes : List ℕ) (server after : Server) (text : List ℕ) → Says config line fresh number place bytes server after text → Goes P server after
-goes-said P stays number place bytes server after text (Says.over n p b s come) = (refl, λ h. h)
-goes-said P stays number place bytes server after text (Says.refused n p b s fault come) = (refl, λ h. h)
-goes-said P stays number place bytes server after text (Says.stuck n p b s) = (refl, λ h. h)
-goes-said P stays number place bytes server after text (Says.missed n p b rest message s t come is) = goes-answered P stays _ s t None is
-goes-said P stays number place bytes server after text (Says.last n p b rest message s t page come is ends) = goes-answered P stays _ s t (Some page) is
-goes-said P stays number place bytes server after text (Says.next n p b front rest message s mid t page more come cut is ends later) =
-    let first = goes-answered P stays _ s mid (Some page) is in
-    let second = goes-said P stays _ _ _ mid t more later in
-    (second.0 ∙ first.0, λ h. second.1 (first.1 h))
 
 kept-talked : (Q : Type 0) (P : Server → Type 0) → Stays P → (world : World) (number : ℕ) (at fresh bytes : List ℕ) (line : Run) (host : List ℕ) → Talked world number at fresh bytes (server_at world at) line → Has Q P host world → Has Q P host line.world
 kept-talked Q P stays world number at fresh bytes line host talked has = by (server_at world at) refl talked
@@ -243,7 +216,7 @@ kept-talked Q P stays world number at fresh bytes line host talked has = by (ser
     by : (o : Option Server) → server_at world at ≡ o → Talked world number at fresh bytes o line → Has Q P host line.world
     by None there is = subst (λ (l : Run). Has Q P host l.world) (sym is) has
     by (Some server) there is =
-        let goes = goes-said P stays _ _ _ server is.0 is.1 is.2 in
+        let goes = is_after P server is.0 (after_calls server is.2.calls) is.2.is_after (goes-calls P stays server is.2.calls is.2.replies) in
         let own : (found : Server) → server_at world at ≡ Some found → server ≡ found = λ found here. some_is server found (sym there ∙ here) in
         subst (λ (l : Run). Has Q P host l.world) (sym is.3)
         (kept-step Q P (λ (s : Server). is.0) world at host
