@@ -20,6 +20,7 @@ use ocm_plan_dav::{plan_carry, plan_dav};
 use ocm_plan_local::plan_command;
 use ocm_plan_peers::{plan_due, plan_notice, plan_offer, plan_settle};
 use ocm_tables::{Probes, Steps, Tables};
+use ocm_tree::Tree;
 use ocm_types::{Host, Numbered};
 use std::alloc::Global;
 use std::marker::{Brand, Model};
@@ -74,6 +75,13 @@ impl Core {
         ensures history { (g : List Entry) → IsAfter self.now.state g → result ≡ moment (kept self.now.state.host g) }
     {
         self.tables.moment()
+    }
+
+    /// What stands on the server.
+    pub fn files(&self) -> &Tree
+        ensures { result.now.nodes ≡ self.now.state.nodes }
+    {
+        self.tables.files()
     }
 
     /// The message of this number, settled or not, as it is sent. None where there is none.

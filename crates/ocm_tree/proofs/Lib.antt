@@ -23,3 +23,4 @@ pub mod SlotTags
 pub mod FirstStanding
 pub mod FirstAmong
 pub mod Spans
+pub mod Compared

@@ -7,3 +7,4 @@ pub mod Changes
 pub mod Tags
 pub mod Trails
 pub mod Trees
+pub mod Comparing

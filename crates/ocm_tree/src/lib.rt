@@ -20,6 +20,7 @@ mod amounts;
 mod branches;
 mod carries;
 mod changes;
+mod comparing;
 mod entry_numbers;
 mod firsts;
 mod indexes;

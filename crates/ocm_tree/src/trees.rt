@@ -1,9 +1,10 @@
-ghost use Rattle.std.specs.Prelude.{◌≡◌, ◌≢◌, ◌<◌, ◌≤◌, ◌+◌, ◌++◌, ℕ, [], All, length, map, Some, None, filter, IfOk, IfSome, IsSomeAnd, OnOk, option_copied, vec_capacity};
+ghost use Rattle.std.specs.Prelude.{◌≡◌, ◌≢◌, ◌<◌, ◌≤◌, ◌+◌, ◌++◌, ℕ, [], All, length, map, Some, None, true, filter, IfOk, IfSome, IsSomeAnd, OnOk, option_copied, vec_capacity};
 ghost use Rattle.std.specs.Option.{option_or};
 ghost use Rattle.ocm_limits.specs.Limits.{most_file_bytes, most_nodes, most_stored_bytes};
 ghost use Rattle.ocm_path.specs.Paths.{Segments};
 ghost use Rattle.ocm_entry.specs.Listings.{item_in};
 ghost use Rattle.ocm_entry.specs.declared.rows.Node.{Node};
+ghost use Rattle.ocm_entry.specs.declared.rows.Place.{Place};
 ghost use Rattle.ocm_entry.specs.declared.rows.Standing.{Standing};
 ghost use Rattle.ocm_entry.specs.declared.rows.Standing.TheVariants.{Collection, File};
 ghost use Rattle.ocm_rules.specs.Files.{size_of, parent_of, is_at_or_above, total_size, with_node, with_roots, limit_of, nodes_after, Gone, Carried, copies, stays, path_limit, limit_of_carry};
@@ -18,6 +19,7 @@ use crate::amounts::limit_of_paths;
 use crate::branches::Branch;
 use crate::carries::PlannedCarry;
 use crate::changes::{FileChange, Part};
+use crate::comparing::{node_in, stand_alike};
 use crate::entry_numbers::EntryNumbers;
 use crate::firsts::first_standing;
 use crate::limits::{first_passed, growth, size_at};
@@ -351,5 +353,25 @@ impl Tree {
             Some(standing) => Some(standing),
             None => first_standing(found, slots, Part::Copied, change),
         }
+    }
+
+    /// Whether at each place the same stands as in another tree. By which entries it came, and in which
+    /// order, may differ.
+    pub fn stands_as(&self, other: &Tree) -> bool
+        ensures { result ≡ true → (place : Place) → node_at self.now.nodes place ≡ node_at other.now.nodes place }
+    {
+        stand_alike(&self.table, &other.table)
+    }
+
+    /// How many slots there are. Each node is in one of them.
+    pub fn slot_count(&self) -> usize {
+        self.table.slots().len()
+    }
+
+    /// The node in the slot of this index. None where the slot is empty, or there is none.
+    pub fn node(&self, index: usize) -> Option<&Node>
+        ensures { IfSome result (λ node. node_at self.now.nodes node.now.place ≡ Some node.now.standing) }
+    {
+        node_in(self.table.slots(), index)
     }
 }
