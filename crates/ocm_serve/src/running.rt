@@ -1,6 +1,13 @@
 //! A server run by a plan, with what an administrator is told.
-ghost use Rattle.std.specs.Prelude.{◌≤◌, ◌<◌, vec_len};
+ghost use Rattle.std.specs.Prelude.{◌≡◌, ◌≤◌, ◌<◌, ◌^◌, ℕ, [], length, slice_index_or, vec_len};
+ghost use Rattle.ocm_journal.specs.Openings.{new_area};
+ghost use Rattle.ocm_limits.specs.Limits.{served_disk_bytes};
+ghost use Rattle.ocm_serve_store.specs.Runs.{RunsTo};
 ghost use Rattle.ocm_serve_system.specs.Statuses.{IsStatus};
+ghost use Rattle.ocm_server.specs.Objects.{Shift, draw_at};
+ghost use Rattle.ocm_server.specs.Statuses.{status_of};
+ghost use Rattle.ocm_server.specs.Visits.{work};
+ghost use Rattle.ocm_server.specs.declared.served.Served.{Served};
 
 use crate::workers::{dismiss, workers_for};
 use ocm_base::Clock;
@@ -8,7 +15,7 @@ use ocm_disk::Disk;
 use ocm_pump::Dial;
 use ocm_serve_options::Plan;
 use ocm_serve_store::{Followed, serve};
-use ocm_serve_system::{OpenFault, Opening, ToldDisk, tell_end, tell_fault, tell_place};
+use ocm_serve_system::{OpenFault, Opening, ToldDisk, tell_end, tell_fault, tell_host, tell_place};
 use ocm_server::{Door, Worker};
 use std::alloc::Global;
 use std::fs::File;
@@ -45,6 +52,7 @@ pub fn run<
         }
     };
     tell_place(rt, &opening);
+    tell_host(rt, alloc, &plan.host);
     let (disk, draw_key) = opening.into_disk();
     run_workers(rt, alloc, plan, workers, ToldDisk::new(rt, disk), draw_key)
 }
@@ -67,7 +75,18 @@ fn run_workers<
 where
     L::Conn: Send,
     requires some { 0 < vec_len workers }
-    ensures { IsStatus result }
+    ensures status { IsStatus result }
+
+    // The status is that of what `serve` came to, with all that is known of it.
+    ensures runs { (came : Served) × (result ≡ status_of came)
+        × RunsTo ⟦<D as Disk>⟧ plan.now (new_area served_disk_bytes) (2 ^ 63)
+        (λ old new config gate first count all. (length all ≡ length old) × ((i : ℕ) (d : _) → i < length old →
+        let a = slice_index_or old i d in let b = slice_index_or new i d in
+        Shift L.Conn.sides config gate first (draw_at draw_key i)
+        (work (L.told a.door) (L.faults a.door) (N.exchanges a.dial) (N.faults a.dial) (N.delivers a.dial) a.draw (K.given a.clock) a.pass a.end)
+        (work (L.told b.door) (L.faults b.door) (N.exchanges b.dial) (N.faults b.dial) (N.delivers b.dial) b.draw (K.given b.clock) b.pass b.end)
+        (slice_index_or all i []) count))
+        (λ w. w.end) disk workers.items came }
 {
     let (served, disk) = serve(rt, alloc, plan, &mut workers, disk, draw_key);
     drop(disk);
