@@ -30,7 +30,7 @@ pub struct FileDisk {
     file: File,
     /// How many bytes the disk has.
     len: u64,
-    /// How many bytes the file has at least: those of the disk, and zeros.
+    /// How many bytes the file has at least: those of the disk, and zeros. No zeros are laid before it.
     laid: u64,
     faults: u64,
 }
@@ -173,6 +173,7 @@ impl Disk for FileDisk {
         let tell = self.file.write_all_at(bytes, place);
         self.told(tell)?;
         self.len = self.len.max(end);
+        self.laid = self.laid.max(end);
         Ok(())
     }
 
