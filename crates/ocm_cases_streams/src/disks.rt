@@ -39,10 +39,15 @@ pub fn shorten<D: Disk>(disk: &mut D, len: u64) -> Result<(), Failed> {
 
 /// The first four bytes.
 pub fn first_four<D: Disk>(disk: &mut D) -> Result<[u8; 4], Failed> {
+    four_at(disk, 0)
+}
+
+/// Four bytes from a place on.
+pub fn four_at<D: Disk>(disk: &mut D, place: u64) -> Result<[u8; 4], Failed> {
     let mut bytes = [0; 4];
-    if disk.len() < 4 {
+    if place > 1000 || disk.len() < place + 4 {
         return Err(Failed);
     }
-    disk.read_at(0, &mut bytes)?;
+    disk.read_at(place, &mut bytes)?;
     Ok(bytes)
 }

@@ -1,6 +1,6 @@
 //! A disk over a real file.
 use crate::assertions::holds;
-use crate::disks::{first_four, put, replace, shorten};
+use crate::disks::{first_four, four_at, put, replace, shorten};
 use ocm_disk::{Disk, FileDisk};
 use std::fs::File;
 use std::process::Abort;
@@ -14,6 +14,7 @@ const PATH: &str = "ocm_disk_test";
 fn a_file_keeps_what_was_written(rt: HostRuntime) {
     changes(&rt);
     keeps(&rt);
+    stays(&rt);
     removes(&rt);
 }
 
@@ -51,6 +52,33 @@ fn keeps<R: Files<File = File> + Abort>(rt: &R) {
         first_four(&mut disk) == Ok(*b"aXcd"),
     );
     holds(rt, "no fault is counted", disk.faults() == 0);
+}
+
+/// Writes in a file so long that zeros are laid behind it.
+fn stays<R: Files<File = File> + Abort>(rt: &R) {
+    let mut disk = open(rt);
+    holds(
+        rt,
+        "six hundred bytes are written",
+        put(&mut disk, 0, &[b'a'; 600]).is_ok(),
+    );
+    holds(rt, "one is replaced", put(&mut disk, 8, b"X").is_ok());
+    holds(
+        rt,
+        "one is written behind them",
+        put(&mut disk, 600, b"b").is_ok(),
+    );
+    holds(
+        rt,
+        "the bytes around the first stay",
+        four_at(&mut disk, 6) == Ok(*b"aaXa"),
+    );
+    holds(
+        rt,
+        "so do the last, with the one behind them",
+        four_at(&mut disk, 597) == Ok(*b"aaab"),
+    );
+    holds(rt, "the disk is no longer than that", disk.len() == 601);
 }
 
 fn removes<R: Files<File = File> + Abort>(rt: &R) {
