@@ -11,31 +11,31 @@ use std::mem;
 
 /// A disk that is off, or a journal on it.
 #[derive(Drop)]
-pub enum Place {
+pub enum JournalPlace {
     Off(MemDisk),
     On(Journal<MemDisk>),
 }
 
 /// Takes the disk out, and leaves one without bytes.
-pub fn taken(alloc: Global, place: &mut Place) -> MemDisk {
-    match mem::replace(place, Place::Off(MemDisk::new(alloc))) {
-        Place::Off(disk) => disk,
-        Place::On(journal) => journal.into_disk(),
+pub fn taken(alloc: Global, place: &mut JournalPlace) -> MemDisk {
+    match mem::replace(place, JournalPlace::Off(MemDisk::new(alloc))) {
+        JournalPlace::Off(disk) => disk,
+        JournalPlace::On(journal) => journal.into_disk(),
     }
 }
 
 /// Puts another in its place.
-pub fn put(place: &mut Place, new: Place) {
+pub fn put(place: &mut JournalPlace, new: JournalPlace) {
     drop(mem::replace(place, new));
 }
 
 /// Begins anew with a disk of these bytes, and tells how many they are.
-pub fn begin(alloc: Global, place: &mut Place, pieces: &str) -> Option<String> {
+pub fn begin(alloc: Global, place: &mut JournalPlace, pieces: &str) -> Option<String> {
     let bytes = bytes_of(alloc, pieces)?;
     let length = bytes.len();
     match disk_of(alloc, bytes) {
         Some(disk) => {
-            put(place, Place::Off(disk));
+            put(place, JournalPlace::Off(disk));
             format!(in alloc; "{length}").ok()
         }
         None => None,
@@ -43,7 +43,7 @@ pub fn begin(alloc: Global, place: &mut Place, pieces: &str) -> Option<String> {
 }
 
 /// Loads the disk: the form, the size of the areas and the records, or why it is refused.
-pub fn load(alloc: Global, place: &mut Place, row: &str) -> Option<String> {
+pub fn load(alloc: Global, place: &mut JournalPlace, row: &str) -> Option<String> {
     let (limit, label) = row.split_once(' ').unwrap_or((row, "a.example"));
     let limit: u64 = limit.parse().ok()?;
     if limit < 4096 || limit > 549_755_813_888 {
@@ -59,16 +59,21 @@ pub fn load(alloc: Global, place: &mut Place, row: &str) -> Option<String> {
     told
 }
 
-fn opened(alloc: Global, disk: MemDisk, label: &[u8; 9], limit: u64) -> (Place, Option<String>)
+fn opened(
+    alloc: Global,
+    disk: MemDisk,
+    label: &[u8; 9],
+    limit: u64,
+) -> (JournalPlace, Option<String>)
     requires { (4096 ≤ limit) × (limit ≤ 2 ^ 39) }
 {
     match Journal::load(alloc, disk, label, limit) {
         Ok((journal, records)) => {
             let told = journal_told(alloc, &journal, records.as_slice());
             drop(records);
-            (Place::On(journal), told)
+            (JournalPlace::On(journal), told)
         }
-        Err((disk, fault)) => (Place::Off(disk), fault_told(alloc, fault)),
+        Err((disk, fault)) => (JournalPlace::Off(disk), fault_told(alloc, fault)),
     }
 }
 
@@ -121,7 +126,7 @@ fn label_told(alloc: Global, found: Bytes) -> Option<String> {
 }
 
 /// Takes the journal down with a crash of its disk.
-pub fn crash(alloc: Global, place: &mut Place, row: &str) -> Option<String> {
+pub fn crash(alloc: Global, place: &mut JournalPlace, row: &str) -> Option<String> {
     let mode = match row {
         "old" => Crash::Old,
         "new" => Crash::New,
@@ -129,16 +134,16 @@ pub fn crash(alloc: Global, place: &mut Place, row: &str) -> Option<String> {
         _ => return None,
     };
     let disk = taken(alloc, place).crash(mode);
-    put(place, Place::Off(disk));
+    put(place, JournalPlace::Off(disk));
     String::from_str(alloc, "crash").ok()
 }
 
 /// From now on so many device calls pass.
-pub fn fuse(alloc: Global, place: &mut Place, row: &str) -> Option<String> {
+pub fn fuse(alloc: Global, place: &mut JournalPlace, row: &str) -> Option<String> {
     let calls = row.parse().ok()?;
     match place {
-        Place::Off(disk) => disk.fuse(calls),
-        Place::On(journal) => journal.fuse(calls),
+        JournalPlace::Off(disk) => disk.fuse(calls),
+        JournalPlace::On(journal) => journal.fuse(calls),
     }
     String::from_str(alloc, "fuse").ok()
 }

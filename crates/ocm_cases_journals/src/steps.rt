@@ -4,7 +4,7 @@ ghost use Rattle.ocm_journal_image.specs.Layout.{AreRecords};
 
 use crate::disks::disk_told;
 use crate::pieces::bytes_of;
-use crate::places::{Place, begin, crash, fuse, load, put, taken};
+use crate::places::{JournalPlace, begin, crash, fuse, load, put, taken};
 use ocm_base::{Bytes, List};
 use ocm_disk::MemDisk;
 use ocm_journal::{AppendFault, Journal, RenewFault};
@@ -12,7 +12,7 @@ use std::alloc::Global;
 
 /// What each step of a case tells. None where a step is none, or where memory was wanting for what it tells.
 pub fn case_told(alloc: Global, case: &str) -> Option<String> {
-    let mut place = Place::Off(MemDisk::new(alloc));
+    let mut place = JournalPlace::Off(MemDisk::new(alloc));
     let mut text = String::new(alloc);
     let whole = add_each(alloc, &mut place, &mut text, case);
     drop(place);
@@ -25,14 +25,14 @@ pub fn case_told(alloc: Global, case: &str) -> Option<String> {
     }
 }
 
-fn add_each(alloc: Global, place: &mut Place, text: &mut String, case: &str) -> Option<()> {
+fn add_each(alloc: Global, place: &mut JournalPlace, text: &mut String, case: &str) -> Option<()> {
     for step in case.split("; ") {
         add_step(alloc, place, text, step)?;
     }
     Some(())
 }
 
-fn add_step(alloc: Global, place: &mut Place, text: &mut String, step: &str) -> Option<()> {
+fn add_step(alloc: Global, place: &mut JournalPlace, text: &mut String, step: &str) -> Option<()> {
     if !text.is_empty() {
         text.push_str("; ").ok()?;
     }
@@ -42,7 +42,7 @@ fn add_step(alloc: Global, place: &mut Place, text: &mut String, step: &str) -> 
     added.ok()
 }
 
-fn step_told(alloc: Global, place: &mut Place, step: &str) -> Option<String> {
+fn step_told(alloc: Global, place: &mut JournalPlace, step: &str) -> Option<String> {
     let (kind, row) = step.split_once(' ').unwrap_or((step, ""));
     match kind {
         "bytes" => begin(alloc, place, row),
@@ -50,17 +50,17 @@ fn step_told(alloc: Global, place: &mut Place, step: &str) -> Option<String> {
         "crash" => crash(alloc, place, row),
         "fuse" => fuse(alloc, place, row),
         "append" | "renew" | "form" => match place {
-            Place::On(journal) => journal_step(alloc, journal, kind, row),
-            Place::Off(_) => None,
+            JournalPlace::On(journal) => journal_step(alloc, journal, kind, row),
+            JournalPlace::Off(_) => None,
         },
         _ => disk_step(alloc, place, kind, row),
     }
 }
 
-fn disk_step(alloc: Global, place: &mut Place, kind: &str, row: &str) -> Option<String> {
+fn disk_step(alloc: Global, place: &mut JournalPlace, kind: &str, row: &str) -> Option<String> {
     let mut disk = taken(alloc, place);
     let told = disk_told(alloc, &mut disk, kind, row);
-    put(place, Place::Off(disk));
+    put(place, JournalPlace::Off(disk));
     told
 }
 

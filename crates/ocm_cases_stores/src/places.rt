@@ -10,26 +10,26 @@ use std::mem;
 
 /// A disk that is off, or a store on it.
 #[derive(Drop)]
-pub enum Place {
+pub enum StorePlace {
     Off(MemDisk),
     On(Store<MemDisk>),
 }
 
 /// Takes the disk out, and leaves one without bytes.
-pub fn taken(alloc: Global, place: &mut Place) -> MemDisk {
-    match mem::replace(place, Place::Off(MemDisk::new(alloc))) {
-        Place::Off(disk) => disk,
-        Place::On(store) => store.into_disk(),
+pub fn taken(alloc: Global, place: &mut StorePlace) -> MemDisk {
+    match mem::replace(place, StorePlace::Off(MemDisk::new(alloc))) {
+        StorePlace::Off(disk) => disk,
+        StorePlace::On(store) => store.into_disk(),
     }
 }
 
 /// Puts another in its place.
-pub fn put(place: &mut Place, new: Place) {
+pub fn put(place: &mut StorePlace, new: StorePlace) {
     drop(mem::replace(place, new));
 }
 
 /// Loads the disk: how many entries are kept, or why it is refused.
-pub fn load(alloc: Global, place: &mut Place, row: &str) -> Option<String> {
+pub fn load(alloc: Global, place: &mut StorePlace, row: &str) -> Option<String> {
     let (limit, host) = row.split_once(' ').unwrap_or((row, "a.example"));
     let limit: u64 = limit.parse().ok()?;
     if limit < 4096 || limit > 549_755_813_888 {
@@ -41,7 +41,7 @@ pub fn load(alloc: Global, place: &mut Place, row: &str) -> Option<String> {
     }
 }
 
-fn load_for(alloc: Global, place: &mut Place, host: Host, limit: u64) -> Option<String>
+fn load_for(alloc: Global, place: &mut StorePlace, host: Host, limit: u64) -> Option<String>
     requires { (4096 ≤ limit) × (limit ≤ 2 ^ 39) }
 {
     let (loaded, told) = opened(alloc, taken(alloc, place), host, limit);
@@ -49,18 +49,18 @@ fn load_for(alloc: Global, place: &mut Place, host: Host, limit: u64) -> Option<
     told
 }
 
-fn opened(alloc: Global, disk: MemDisk, host: Host, limit: u64) -> (Place, Option<String>)
+fn opened(alloc: Global, disk: MemDisk, host: Host, limit: u64) -> (StorePlace, Option<String>)
     requires { (4096 ≤ limit) × (limit ≤ 2 ^ 39) }
 {
     match Store::load(alloc, disk, host, limit) {
         Ok(store) => kept_told(alloc, store),
-        Err((disk, fault)) => (Place::Off(disk), fault_told(alloc, fault)),
+        Err((disk, fault)) => (StorePlace::Off(disk), fault_told(alloc, fault)),
     }
 }
 
-fn kept_told(alloc: Global, store: Store<MemDisk>) -> (Place, Option<String>) {
+fn kept_told(alloc: Global, store: Store<MemDisk>) -> (StorePlace, Option<String>) {
     let told = format!(in alloc; "opened {}", store.kept());
-    (Place::On(store), told.ok())
+    (StorePlace::On(store), told.ok())
 }
 
 fn fault_told(alloc: Global, fault: LoadFault) -> Option<String> {
@@ -80,7 +80,7 @@ fn host_told(alloc: Global, found: Bytes) -> Option<String> {
 }
 
 /// Takes the store down with a crash of its disk, and loads that.
-pub fn crash(alloc: Global, place: &mut Place, row: &str) -> Option<String> {
+pub fn crash(alloc: Global, place: &mut StorePlace, row: &str) -> Option<String> {
     let mode = match row {
         "old" => Crash::Old,
         "new" => Crash::New,
@@ -88,16 +88,16 @@ pub fn crash(alloc: Global, place: &mut Place, row: &str) -> Option<String> {
         _ => return None,
     };
     let disk = taken(alloc, place).crash(mode);
-    put(place, Place::Off(disk));
+    put(place, StorePlace::Off(disk));
     load(alloc, place, "4096")
 }
 
 /// From now on so many device calls pass.
-pub fn fuse(alloc: Global, place: &mut Place, row: &str) -> Option<String> {
+pub fn fuse(alloc: Global, place: &mut StorePlace, row: &str) -> Option<String> {
     let calls = row.parse().ok()?;
     match place {
-        Place::Off(disk) => disk.fuse(calls),
-        Place::On(store) => store.fuse(calls),
+        StorePlace::Off(disk) => disk.fuse(calls),
+        StorePlace::On(store) => store.fuse(calls),
     }
     String::from_str(alloc, "fuse").ok()
 }

@@ -1,7 +1,7 @@
 //! The steps of a case.
 use crate::asks::ask_of;
 use crate::disks::disk_told;
-use crate::places::{Place, crash, fuse, load, put, taken};
+use crate::places::{StorePlace, crash, fuse, load, put, taken};
 use crate::replies::reply_told;
 use ocm_disk::MemDisk;
 use ocm_entry::Object;
@@ -11,7 +11,7 @@ use std::alloc::Global;
 
 /// What each step of a case tells. None where a step is none, or where memory was wanting for what it tells.
 pub fn case_told(alloc: Global, case: &str) -> Option<String> {
-    let mut place = Place::Off(MemDisk::new(alloc));
+    let mut place = StorePlace::Off(MemDisk::new(alloc));
     let mut text = String::new(alloc);
     let whole = add_each(alloc, &mut place, &mut text, case);
     drop(place);
@@ -24,14 +24,14 @@ pub fn case_told(alloc: Global, case: &str) -> Option<String> {
     }
 }
 
-fn add_each(alloc: Global, place: &mut Place, text: &mut String, case: &str) -> Option<()> {
+fn add_each(alloc: Global, place: &mut StorePlace, text: &mut String, case: &str) -> Option<()> {
     for step in case.split("; ") {
         add_step(alloc, place, text, step)?;
     }
     Some(())
 }
 
-fn add_step(alloc: Global, place: &mut Place, text: &mut String, step: &str) -> Option<()> {
+fn add_step(alloc: Global, place: &mut StorePlace, text: &mut String, step: &str) -> Option<()> {
     if !text.is_empty() {
         text.push_str("; ").ok()?;
     }
@@ -41,7 +41,7 @@ fn add_step(alloc: Global, place: &mut Place, text: &mut String, step: &str) -> 
     added.ok()
 }
 
-fn step_told(alloc: Global, place: &mut Place, step: &str) -> Option<String> {
+fn step_told(alloc: Global, place: &mut StorePlace, step: &str) -> Option<String> {
     let (kind, row) = step.split_once(' ').unwrap_or((step, ""));
     match kind {
         "load" => load(alloc, place, row),
@@ -49,16 +49,16 @@ fn step_told(alloc: Global, place: &mut Place, step: &str) -> Option<String> {
         "fuse" => fuse(alloc, place, row),
         "add" | "fill" | "cut" | "length" | "bytes" | "audit" => disk_step(alloc, place, kind, row),
         _ => match place {
-            Place::On(store) => store_told(alloc, store, kind, row),
-            Place::Off(_) => None,
+            StorePlace::On(store) => store_told(alloc, store, kind, row),
+            StorePlace::Off(_) => None,
         },
     }
 }
 
-fn disk_step(alloc: Global, place: &mut Place, kind: &str, row: &str) -> Option<String> {
+fn disk_step(alloc: Global, place: &mut StorePlace, kind: &str, row: &str) -> Option<String> {
     let mut disk = taken(alloc, place);
     let told = disk_told(alloc, &mut disk, kind, row);
-    put(place, Place::Off(disk));
+    put(place, StorePlace::Off(disk));
     told
 }
 

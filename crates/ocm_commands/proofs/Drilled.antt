@@ -2,7 +2,7 @@
 use Rattle.std.proofs.Common.{◌≡◌, ◌≤◌, ◌⊎◌, List, length, ℕ, refl, sym, subst}
 use Rattle.std.specs.Prelude.{Option, Some, None, IfSome}
 use mathlib.Core.Logic.{inl, inr}
-use Rattle.ocm_disk.specs.declared.shelf.Place.{Place}
+use Rattle.ocm_disk.specs.declared.shelf.ShelfPlace.{ShelfPlace}
 use Rattle.ocm_script_run.specs.Drills.{Drills, DrillsPart, summary_of}
 use Rattle.ocm_script_run.specs.Servers.{World}
 use Rattle.ocm_world.specs.Shelves.{AreShelved}
@@ -12,7 +12,7 @@ use Rattle.ocm_commands_files.specs.declared.ends.End.TheVariants as whole
 use Rattle.ocm_commands_files.specs.declared.words.Command.TheVariants as commands
 
 -- the summary of a run
-pub drilled : (number events : ℕ) (old new : Option (List ℕ)) (final : World) (shelf : List Place) → Drills number events old new final → AreShelved final shelf → (bytes : List ℕ) → length bytes ≤ most_bytes (commands.Drill number events) → Writes (commands.Drill number events) bytes whole.Done old new shelf
+pub drilled : (number events : ℕ) (old new : Option (List ℕ)) (final : World) (shelf : List ShelfPlace) → Drills number events old new final → AreShelved final shelf → (bytes : List ℕ) → length bytes ≤ most_bytes (commands.Drill number events) → Writes (commands.Drill number events) bytes whole.Done old new shelf
 drilled number events old new final shelf drills shelved bytes le = (le, summary_of events drills.0 final, drills.2, (final, drills.0, refl, drills.1, refl, shelved))
 
 -- nothing, or a prefix of a summary

@@ -5,7 +5,7 @@ use Rattle.std.proofs.lemmas.Result.{on_err_weaker}
 use Rattle.std.proofs.lemmas.List.{take-append-drop}
 use mathlib.Core.Logic.{inl, inr}
 use Rattle.ocm_base.specs.Outside.{AppendsPart}
-use Rattle.ocm_disk.specs.declared.shelf.Place.{Place}
+use Rattle.ocm_disk.specs.declared.shelf.ShelfPlace.{ShelfPlace}
 use Rattle.ocm_commands.specs.Commands.{Gives, Writes, WritesPart}
 use Rattle.ocm_commands_files.specs.Commands.{GivesPlain, IsStatus, IsWhole, WritesPlain, WritesPlainPart, end_status, status_of}
 use Rattle.ocm_commands_files.specs.Words.{AreOf, AreOther, input_of, most_bytes}
@@ -66,19 +66,19 @@ with-input None P Q gives holds = tt
 with-input (Some bytes) P Q gives holds = gives bytes holds
 
 -- what a run wrote whose text is whole is what the words' command writes
-whole-of : (command : Command) (run : Result End Fault) (n : ℕ) (left old new : Option (List ℕ)) (shelf : List Place) → n ≡ status_of run → IsWhole n
+whole-of : (command : Command) (run : Result End Fault) (n : ℕ) (left old new : Option (List ℕ)) (shelf : List ShelfPlace) → n ≡ status_of run → IsWhole n
     → IfOk run (λ end. IfSome (input_of command left) (λ bytes. Writes command bytes end old new shelf)) → IfSome (input_of command left) (λ bytes. (end : End) × (n ≡ end_status end) × Writes command bytes end old new shelf)
 whole-of command (Ok end) n left old new shelf is done wrote =
     with-input (input_of command left) (λ bytes. Writes command bytes end old new shelf) (λ bytes. (e : End) × (n ≡ end_status e) × Writes command bytes e old new shelf) (λ bytes writes. (end, is, writes)) wrote
 whole-of command (Err fault) n left old new shelf is done wrote = absurd (apart done.0 n (status_of (Err fault)) done.1 is (early-status fault))
 
-pub run-whole : (words : List (List ℕ)) (command c : Command) (run : Result End Fault) (n : ℕ) (left old new : Option (List ℕ)) (shelf : List Place) → ((d : Command) → (Some command ≡ Some d) ↔ AreOf d words) → AreOf c words → n ≡ status_of run → IsWhole n
+pub run-whole : (words : List (List ℕ)) (command c : Command) (run : Result End Fault) (n : ℕ) (left old new : Option (List ℕ)) (shelf : List ShelfPlace) → ((d : Command) → (Some command ≡ Some d) ↔ AreOf d words) → AreOf c words → n ≡ status_of run → IsWhole n
     → IfOk run (λ end. IfSome (input_of command left) (λ bytes. Writes command bytes end old new shelf)) → IfSome (input_of c left) (λ bytes. (end : End) × (n ≡ end_status end) × Writes c bytes end old new shelf)
 run-whole words command c run n left old new shelf read are is done wrote =
     subst (λ d. IfSome (input_of d left) (λ bytes. (end : End) × (n ≡ end_status end) × Writes d bytes end old new shelf)) (same_Some command c ((read c).1 are)) (whole-of command run n left old new shelf is done wrote)
 
 -- what a plain command gives is what the command gives, with any shelf
-plain-gives : (command : Command) (bytes : List ℕ) (end : End) (text : List ℕ) (shelf : Option (List Place)) → GivesPlain command bytes end text → Gives command bytes end text shelf
+plain-gives : (command : Command) (bytes : List ℕ) (end : End) (text : List ℕ) (shelf : Option (List ShelfPlace)) → GivesPlain command bytes end text → Gives command bytes end text shelf
 plain-gives commands.Replay bytes end text shelf gives = absurd gives
 plain-gives (commands.Trace host) bytes end text shelf gives = absurd gives
 plain-gives commands.Audit bytes end text shelf gives = gives
@@ -89,7 +89,7 @@ plain-gives commands.Help bytes end text shelf gives = gives
 plain-gives commands.Version bytes end text shelf gives = gives
 
 -- what a plain command writes is what the command writes, with any shelf
-pub plain-whole : (command : Command) (bytes : List ℕ) (old new : Option (List ℕ)) (shelf : List Place) (run : Result End Fault) → IfOk run (λ end. WritesPlain command bytes end old new) → IfOk run (λ end. Writes command bytes end old new shelf)
+pub plain-whole : (command : Command) (bytes : List ℕ) (old new : Option (List ℕ)) (shelf : List ShelfPlace) (run : Result End Fault) → IfOk run (λ end. WritesPlain command bytes end old new) → IfOk run (λ end. Writes command bytes end old new shelf)
 plain-whole command bytes old new shelf (Ok end) writes = (writes.0, writes.1, writes.2, plain-gives command bytes end writes.1 (Some shelf) writes.3)
 plain-whole command bytes old new shelf (Err fault) writes = tt
 

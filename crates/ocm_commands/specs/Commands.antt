@@ -1,6 +1,6 @@
 use Rattle.std.specs.Prelude.{◌≡◌, ℕ, ◌≤◌, ◌⊎◌, List, [], ◌++◌, length, Option, Some, None, Result, Ok, Err}
 use Rattle.ocm_base.specs.Outside.{Appends}
-use Rattle.ocm_disk.specs.declared.shelf.Place.{Place}
+use Rattle.ocm_disk.specs.declared.shelf.ShelfPlace.{ShelfPlace}
 use Rattle.ocm_drill.specs.Script.{made_script}
 use Rattle.ocm_script.specs.Script.{script_of}
 use Rattle.ocm_script.specs.declared.events.Event.{Event}
@@ -16,14 +16,14 @@ use Rattle.ocm_commands_files.specs.Words.{most_bytes}
 use Rattle.ocm_commands.specs.Scripts.{DrillsTo, Replays, TracesTo}
 
 -- on these bytes the command has this end, writes this text, and leaves this shelf, where that is told
-abbrev pub Gives : Command → List ℕ → End → List ℕ → Option (List Place) → Type 0
+abbrev pub Gives : Command → List ℕ → End → List ℕ → Option (List ShelfPlace) → Type 0
 Gives commands.Replay bytes end text shelf = Replays bytes end text shelf
 Gives (commands.Trace host) bytes end text shelf = TracesTo host bytes end text shelf
 Gives (commands.Drill number events) bytes end text shelf = DrillsTo number events end text shelf
 Gives command bytes end text shelf = GivesPlain command bytes end text
 
 -- the command took the bytes, had this end, added its text and left this shelf
-abbrev pub Writes : Command → List ℕ → End → Option (List ℕ) → Option (List ℕ) → List Place → Type 0
+abbrev pub Writes : Command → List ℕ → End → Option (List ℕ) → Option (List ℕ) → List ShelfPlace → Type 0
 Writes command bytes end old new shelf = (length bytes ≤ most_bytes command) × (text : List ℕ) × Appends old new text × Gives command bytes end text (Some shelf)
 
 -- nothing was added, or a front of the text of a whole run
@@ -41,7 +41,7 @@ RunsEvents _ bytes events = ⊥
 
 -- The shelf of a command that ended early: it is empty, or the command runs events, and the shelf has the disks of the first
 -- servers that a run of some prefix of them leaves.
-abbrev pub LeavesPart : Command → List ℕ → List Place → Type 0
+abbrev pub LeavesPart : Command → List ℕ → List ShelfPlace → Type 0
 LeavesPart command bytes places = (places ≡ []) ⊎ ((events : List Event) × RunsEvents command bytes events × PrefixShelved events places)
 
 -- a run with this end may put disks on the shelf: it was done, or ended early since the sink failed or memory ran out

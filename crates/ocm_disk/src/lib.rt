@@ -16,4 +16,4 @@ pub use disk::Disk;
 pub use files::FileDisk;
 pub use gate_disks::GateDisk;
 pub use memory::MemDisk;
-pub use shelf::{Place, Shelf, ShelfFault};
+pub use shelf::{Shelf, ShelfFault, ShelfPlace};

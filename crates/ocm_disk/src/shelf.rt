@@ -22,18 +22,18 @@ pub enum ShelfFault {
 }
 
 /// The place of a host: its disk, or nothing where the disk was taken out.
-pub struct Place {
+pub struct ShelfPlace {
     host: Host,
     disk: Option<MemDisk>,
 }
 
-impl Drop for Place {
+impl Drop for ShelfPlace {
     fn drop(self) {
-        let Place { host: _, disk: _ } = self;
+        let ShelfPlace { host: _, disk: _ } = self;
     }
 }
 
-impl Place {
+impl ShelfPlace {
     /// Puts a disk in, where there is none.
     fn fill(&mut self, disk: MemDisk) -> bool
         ensures vacant { result ≡ is_none self.old.disk }
@@ -59,7 +59,7 @@ impl Place {
 
 /// A shelf of disks in memory, with a place for each of at most 16 hosts.
 pub struct Shelf {
-    places: Vec<Place>,
+    places: Vec<ShelfPlace>,
 }
 
 impl Drop for Shelf {
@@ -70,10 +70,10 @@ impl Drop for Shelf {
 
 impl Model for Shelf {
     ghost use Rattle.std.specs.Prelude.{◌≤◌, List, length};
-    ghost use Rattle.ocm_disk.specs.declared.shelf.Place.{Place};
+    ghost use Rattle.ocm_disk.specs.declared.shelf.ShelfPlace.{ShelfPlace};
     ghost use Rattle.ocm_limits.specs.Limits.{most_servers};
 
-    ghost Value = { List Place };
+    ghost Value = { List ShelfPlace };
 
     ghost view = { λ s. s.places.items };
 
@@ -101,7 +101,7 @@ impl Shelf {
             return Err(fault);
         }
         let disk = Some(MemDisk::new(*self.places.allocator()));
-        match self.places.push(Place { host, disk }) {
+        match self.places.push(ShelfPlace { host, disk }) {
             Ok(()) => Ok(()),
             Err(_) => Err(ShelfFault::NoMemory),
         }

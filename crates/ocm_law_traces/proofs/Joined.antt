@@ -4,7 +4,7 @@ use Rattle.std.specs.Prelude.{◌⊎◌}
 use Rattle.std.specs.Option.{option_map_or}
 use mathlib.Core.Logic.{inl, inr}
 use Rattle.ocm_disk.specs.Shelf.{bytes_of, disk_of, is_of}
-use Rattle.ocm_disk.specs.declared.shelf.Place.{Place}
+use Rattle.ocm_disk.specs.declared.shelf.ShelfPlace.{ShelfPlace}
 use Rattle.ocm_entry.specs.declared.asks.Ask.{Ask}
 use Rattle.ocm_entry.specs.declared.entries.Entry.{Entry}
 use Rattle.ocm_entry_bytes.specs.Spells.{AreBytes}
@@ -47,7 +47,7 @@ record IsFound (final : World) (host image : List ℕ) : Type 0 where
   there : server_at final host ≡ Some server
   holds : LeavesNext (record { host = server.host; area = area }) server.base server.calls None image
 
-found-shelf : (final : World) (shelf : List Place) (host image : List ℕ) → AreShelved final shelf → bytes_of (disk_of host shelf) ≡ Some image → IsFound final host image
+found-shelf : (final : World) (shelf : List ShelfPlace) (host image : List ℕ) → AreShelved final shelf → bytes_of (disk_of host shelf) ≡ Some image → IsFound final host image
 found-shelf [] [] host image are is = absurd cc
 found-shelf [] (place ∷ places) host image are is = absurd are
 found-shelf (server ∷ others) [] host image are is = absurd are
@@ -157,7 +157,7 @@ log-true host image log final own end read = record {
     checks = (Ok found, opens, sym (ap (told_of (Ok found)) reads ∙ ap (λ (o : Option ℕ). unless_false o (length read.lines)) none))
 
 -- what is traced of a run is a true log of its image
-pub traced-true : (host image log : List ℕ) (events : List Event) (final : World) (shelf : List Place)
+pub traced-true : (host image log : List ℕ) (events : List Event) (final : World) (shelf : List ShelfPlace)
     → Logged [] 1 host events log final → HaveSoundTexts events → AreBytes image → AreShelved final shelf → bytes_of (disk_of host shelf) ≡ Some image → IsTrueLog host image log
 traced-true host image log events final shelf run sound are shelved there =
     let found = found-shelf final shelf host image shelved there in

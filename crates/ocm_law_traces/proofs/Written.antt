@@ -7,7 +7,7 @@ use Rattle.std.proofs.lemmas.Bool.Decides.{nat_tests}
 use Rattle.std.proofs.lemmas.Nat.{from_be_bytes-to_be_bytes_8}
 use Rattle.ocm_limits.specs.Limits.{most_audited_bytes}
 use Rattle.ocm_base.specs.Outside.{Appends}
-use Rattle.ocm_disk.specs.declared.shelf.Place.{Place}
+use Rattle.ocm_disk.specs.declared.shelf.ShelfPlace.{ShelfPlace}
 use Rattle.ocm_logcheck.specs.Checks.{Checks}
 use Rattle.ocm_logcheck.specs.declared.faults.LogFault.{LogFault}
 use Rattle.ocm_script.specs.declared.events.Event.{Event}
@@ -83,10 +83,10 @@ added : (text : List ℕ) (line : List ℕ) → Appends (Some []) (Some text) li
 added text line appends = cc
 
 -- what a trace wrote of a run
-run-true : (host text bytes : List ℕ) (events : List Event) (shelf : Option (List Place)) → HaveSoundTexts events → length text ≤ most_audited_bytes → TracesRun host events text shelf → IsFoundTrue text
+run-true : (host text bytes : List ℕ) (events : List Event) (shelf : Option (List ShelfPlace)) → HaveSoundTexts events → length text ≤ most_audited_bytes → TracesRun host events text shelf → IsFoundTrue text
 run-true host text bytes events shelf sound few (final, places, transcript, image, log, traced, are, told, made, held, is) =
     found-true host image log text is few (traced-true host image log events final places (traced-logged [] 1 host events transcript log final traced) sound made are held)
 
-pub written-true : (host bytes text : List ℕ) (shelf : List Place) → Writes (commands.Trace host) bytes ends.Done (Some []) (Some text) shelf → length text ≤ most_audited_bytes → IsFoundTrue text
+pub written-true : (host bytes text : List ℕ) (shelf : List ShelfPlace) → Writes (commands.Trace host) bytes ends.Done (Some []) (Some text) shelf → length text ≤ most_audited_bytes → IsFoundTrue text
 written-true host bytes text shelf (le, line, appends, (events, read, named, run)) few =
     run-true host text bytes events (Some shelf) (script-sound bytes events read) few (subst (λ (l : List ℕ). TracesRun host events l (Some shelf)) (sym (added text line appends)) run)

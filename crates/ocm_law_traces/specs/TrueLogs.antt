@@ -1,7 +1,7 @@
 -- What is promised of a log and an image that are traced of one run.
 use Rattle.std.specs.Prelude.{◌≡◌, ℕ, List, length, Option, None, Result, Ok}
 use Rattle.ocm_base.specs.Outside.{Appends}
-use Rattle.ocm_disk.specs.declared.shelf.Place.{Place}
+use Rattle.ocm_disk.specs.declared.shelf.ShelfPlace.{ShelfPlace}
 use Rattle.ocm_entry.specs.declared.entries.Entry.{Entry}
 use Rattle.ocm_access_log.specs.declared.lines.LogLine.{LogLine}
 use Rattle.ocm_access_log.specs.Lines.{log_of}
@@ -33,5 +33,5 @@ pub record IsTrueLog (host image log : List ℕ) : Type 0 where
 pub record IsFoundTrue (text : List ℕ) : Type 0 where
   pub lines : ℕ
   pub taken : IsLong commands.Logcheck text → ⊥
-  pub told : (end : End) (old new : Option (List ℕ)) (shelf : List Place) → Writes commands.Logcheck text end old new shelf → (end ≡ ends.Done) × Appends old new (ok_line lines)
-  pub may : (old new : Option (List ℕ)) (shelf : List Place) → Appends old new (ok_line lines) → Writes commands.Logcheck text ends.Done old new shelf
+  pub told : (end : End) (old new : Option (List ℕ)) (shelf : List ShelfPlace) → Writes commands.Logcheck text end old new shelf → (end ≡ ends.Done) × Appends old new (ok_line lines)
+  pub may : (old new : Option (List ℕ)) (shelf : List ShelfPlace) → Appends old new (ok_line lines) → Writes commands.Logcheck text ends.Done old new shelf

@@ -4,7 +4,7 @@
 
 ghost use Rattle.std.specs.Prelude.{◌≡◌, ◌≤◌, List, [], ℕ, Ok, Some, length};
 ghost use Rattle.ocm_disk.specs.Shelf.{bytes_of, disk_of};
-ghost use Rattle.ocm_disk.specs.declared.shelf.Place.{Place};
+ghost use Rattle.ocm_disk.specs.declared.shelf.ShelfPlace.{ShelfPlace};
 ghost use Rattle.ocm_limits.specs.Limits.{most_audited_bytes};
 ghost use Rattle.ocm_script.specs.Script.{script_of};
 ghost use Rattle.ocm_script.specs.declared.events.Event.{Event};
@@ -24,7 +24,7 @@ ghost use Rattle.ocm_law_traces.specs.TrueLogs.{IsFoundTrue, IsTrueLog};
 /// crashed in it. That the image is made of bytes is the clause `bytes` of `trace`, which writes the two.
 pub fn a_traced_log_is_true()
     ensures { (bytes : List ℕ) (events : List Event) (host log image : List ℕ)
-        (final : World) (shelf : List Place)
+        (final : World) (shelf : List ShelfPlace)
         → script_of bytes ≡ Ok events → Logged [] 1 host events log final
         → AreBytes image → AreShelved final shelf → bytes_of (disk_of host shelf) ≡ Some image
         → IsTrueLog host image log }
@@ -47,7 +47,7 @@ pub fn a_written_log_has_its_parts()
 /// an image may have there: 1,073,741,824. Each of the two commands is meant by the clause of `command` that says what it
 /// writes.
 pub fn a_written_trace_is_found_true()
-    ensures { (host bytes text : List ℕ) (shelf : List Place)
+    ensures { (host bytes text : List ℕ) (shelf : List ShelfPlace)
         → Writes (commands.Trace host) bytes ends.Done (Some []) (Some text) shelf → length text ≤ most_audited_bytes
         → IsFoundTrue text }
 {}

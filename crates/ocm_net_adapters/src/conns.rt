@@ -12,13 +12,13 @@ use std::time;
 /// nothing of what it reads and writes. One number counts its faults of reading and of writing.
 #[derive(Drop)]
 pub struct StreamConn<'a, R: time::Clock> {
-    line: Option<Box<Line<'a, R>>>,
+    line: Option<Box<ClientLine<'a, R>>>,
     faults: u64,
 }
 
 impl<'a, R: time::Clock> StreamConn<'a, R> {
     /// A connection over this line, with no fault so far.
-    pub fn new(line: Box<Line<'a, R>>) -> StreamConn<'a, R> {
+    pub fn new(line: Box<ClientLine<'a, R>>) -> StreamConn<'a, R> {
         StreamConn {
             line: Some(line),
             faults: 0,
@@ -39,7 +39,7 @@ impl<'a, R: time::Clock> StreamConn<'a, R> {
     }
 
     /// The line, where there is one.
-    pub fn into_line(self) -> Option<Box<Line<'a, R>>> {
+    pub fn into_line(self) -> Option<Box<ClientLine<'a, R>>> {
         self.line
     }
 

@@ -2,7 +2,7 @@
 ghost use Rattle.std.specs.Prelude.{◌≤◌, length};
 
 use crate::addresses::begin_connect;
-use crate::replies::Look;
+use crate::replies::ReplyLook;
 use crate::streams::{read_now, write_now};
 use os::RawAddr;
 use std::alloc::Global;
@@ -30,7 +30,7 @@ pub struct Course {
     /// How many bytes of the request were sent.
     sent: usize,
     reply: Vec<u8>,
-    look: Look,
+    look: ReplyLook,
 }
 
 impl Drop for Course {
@@ -54,7 +54,7 @@ impl Course {
             is_connected: false,
             sent: 0,
             reply: Vec::new(alloc),
-            look: Look::new(),
+            look: ReplyLook::new(),
         })
     }
 

@@ -34,7 +34,7 @@ enum Part {
 
 /// How far a reply was looked at, of which more bytes may come.
 #[derive(Clone, Copy)]
-pub struct Look {
+pub struct ReplyLook {
     part: Part,
     /// Where that part begins, which may lie behind the bytes that are here.
     place: usize,
@@ -57,10 +57,10 @@ fn length_at(alloc: Global, bytes: &[u8]) -> Result<Option<Length>, NoMemory> {
     }
 }
 
-impl Look {
+impl ReplyLook {
     /// A reply of which nothing was looked at.
-    pub fn new() -> Look {
-        Look {
+    pub fn new() -> ReplyLook {
+        ReplyLook {
             part: Part::Head(Search::of_head()),
             place: 0,
         }

@@ -1,7 +1,7 @@
 //! What comes in on a connection, ahead of who reads it.
 ghost use Rattle.std.specs.Prelude.{◌≤◌, IfSome, length};
 
-use crate::wholes::Look;
+use crate::wholes::RequestLook;
 use ocm_http_heads::blanks;
 use std::alloc::Global;
 
@@ -32,7 +32,7 @@ pub struct Incoming {
     /// Where the message at their front ends, or the bytes that show its fault; 0 where more have to come.
     whole: usize,
     /// How far they were looked at.
-    look: Look,
+    look: RequestLook,
     peer: Peer,
 }
 
@@ -57,7 +57,7 @@ impl Incoming {
             ahead: Vec::new(alloc),
             used: 0,
             whole: 0,
-            look: Look::new(),
+            look: RequestLook::new(),
             peer: Peer::Open,
         }
     }
@@ -160,7 +160,7 @@ impl Incoming {
     fn look_anew(&mut self) {
         self.used = 0;
         self.whole = 0;
-        self.look = Look::new();
+        self.look = RequestLook::new();
     }
 
     /// Reads what is here, and answers how many bytes: of the message at the front, and behind these of the others. None

@@ -13,5 +13,5 @@ mod streams;
 mod times;
 mod wholes;
 
-pub use lines::{Line, Origin};
+pub use lines::{ClientLine, Origin};
 pub use states::{State, Step};

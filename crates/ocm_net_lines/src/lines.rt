@@ -45,7 +45,7 @@ impl Drop for Origin {
 }
 
 /// A stream, with the bytes that came ahead of a read, and those that were taken and are not sent yet.
-pub struct Line<'a, R: time::Clock> {
+pub struct ClientLine<'a, R: time::Clock> {
     rt: &'a R,
     alloc: Global,
     /// Is rung behind the page of each post.
@@ -66,9 +66,9 @@ pub struct Line<'a, R: time::Clock> {
     turns: u32,
 }
 
-impl<R: time::Clock> Drop for Line<'_, R> {
+impl<R: time::Clock> Drop for ClientLine<'_, R> {
     fn drop(self) {
-        let Line {
+        let ClientLine {
             rt: _,
             alloc: _,
             posts: _,
@@ -86,10 +86,10 @@ impl<R: time::Clock> Drop for Line<'_, R> {
     }
 }
 
-impl<'a, R: time::Clock> Line<'a, R> {
+impl<'a, R: time::Clock> ClientLine<'a, R> {
     /// A line over a stream that doesn't wait.
-    pub fn new(rt: &'a R, alloc: Global, posts: Arc<Bell>, origin: Origin) -> Line<'a, R> {
-        Line {
+    pub fn new(rt: &'a R, alloc: Global, posts: Arc<Bell>, origin: Origin) -> ClientLine<'a, R> {
+        ClientLine {
             rt,
             alloc,
             posts,

@@ -31,7 +31,7 @@ enum Part {
 
 /// How far a request was looked at, of which more bytes may come.
 #[derive(Clone, Copy)]
-pub struct Look {
+pub struct RequestLook {
     part: Part,
     /// Where that part begins, which may lie behind the bytes that are here.
     place: usize,
@@ -41,10 +41,10 @@ pub struct Look {
     is_awaited: bool,
 }
 
-impl Look {
+impl RequestLook {
     /// A request of which nothing was looked at.
-    pub fn new() -> Look {
-        Look {
+    pub fn new() -> RequestLook {
+        RequestLook {
             part: Part::Head(Search::of_head()),
             place: 0,
             body: 0,

@@ -1,6 +1,6 @@
 //! The connections of one worker, those that wait and those that are ready.
 
-use ocm_net_lines::{Line, State};
+use ocm_net_lines::{ClientLine, State};
 use std::alloc::{AllocError, Global};
 use std::{mem, time};
 
@@ -49,7 +49,7 @@ impl Kind {
 
 /// A place for a connection. The one that is served is in none, and keeps its own.
 struct Place<'a, R: time::Clock> {
-    line: Option<Box<Line<'a, R>>>,
+    line: Option<Box<ClientLine<'a, R>>>,
     mark: Mark,
     /// It is among those that are ready.
     is_queued: bool,
@@ -170,7 +170,7 @@ impl<'a, R: time::Clock> Places<'a, R> {
 
     /// Puts a connection into its place, where it waits: it rests for so many milliseconds at most. One that has something
     /// to do gets a turn.
-    pub fn put(&mut self, line: Box<Line<'a, R>>, rest: u64) {
+    pub fn put(&mut self, line: Box<ClientLine<'a, R>>, rest: u64) {
         let place = line.place();
         let has_work = line.has_work();
         let mark = Mark {
@@ -232,7 +232,7 @@ impl<'a, R: time::Clock> Places<'a, R> {
     }
 
     /// Takes the connection of a place.
-    pub fn take(&mut self, place: usize) -> Option<Box<Line<'a, R>>> {
+    pub fn take(&mut self, place: usize) -> Option<Box<ClientLine<'a, R>>> {
         match self.places.get_mut(place) {
             Some(it) => it.line.take(),
             None => None,
@@ -240,7 +240,7 @@ impl<'a, R: time::Clock> Places<'a, R> {
     }
 
     /// Takes the connection of a place where it waits for too long.
-    pub fn take_late(&mut self, place: usize, now: u64) -> Option<Box<Line<'a, R>>> {
+    pub fn take_late(&mut self, place: usize, now: u64) -> Option<Box<ClientLine<'a, R>>> {
         let it = self.places.get_mut(place)?;
         if it.mark.until < now {
             it.line.take()
@@ -250,13 +250,13 @@ impl<'a, R: time::Clock> Places<'a, R> {
     }
 
     /// Takes the one that waits for longest of those that hold much.
-    pub fn take_holding(&mut self) -> Option<Box<Line<'a, R>>> {
+    pub fn take_holding(&mut self) -> Option<Box<ClientLine<'a, R>>> {
         self.take_oldest(Kind::Holding)
     }
 
     /// Takes, of the address with the most connections that wait, the one that waits for longest, and before others one
     /// that has no turn yet.
-    pub fn take_crowding(&mut self) -> Option<Box<Line<'a, R>>> {
+    pub fn take_crowding(&mut self) -> Option<Box<ClientLine<'a, R>>> {
         let heap = self.fullest_heap();
         match self.take_oldest(Kind::IdleHeap(heap)) {
             Some(line) => Some(line),
@@ -284,7 +284,7 @@ impl<'a, R: time::Clock> Places<'a, R> {
     }
 
     /// Takes the one that waits for longest of those that are of a kind.
-    fn take_oldest(&mut self, kind: Kind) -> Option<Box<Line<'a, R>>> {
+    fn take_oldest(&mut self, kind: Kind) -> Option<Box<ClientLine<'a, R>>> {
         let mut oldest = u64::MAX;
         let mut place = self.places.len();
         for (i, it) in self.places.iter().enumerate() {

@@ -4,7 +4,7 @@ use crate::entrances::{Arrival, Entrance};
 use crate::places::Places;
 use crate::seats::{Accepted, Seat};
 use libc::net::{EPOLLET, EPOLLIN, EPOLLOUT, EPOLLRDHUP};
-use ocm_net_lines::{Line, Origin, Step};
+use ocm_net_lines::{ClientLine, Origin, Step};
 use ocm_net_waits::{Set, last_error, millis};
 use os::EpollEvent;
 use std::alloc::Global;
@@ -131,7 +131,7 @@ impl<'a, R: Wait + time::Clock> Serving<'a, R> {
     }
 
     /// The next connection whose message is whole or has a fault in what came of it, or None at the end.
-    pub fn give(&mut self) -> Option<Box<Line<'a, R>>> {
+    pub fn give(&mut self) -> Option<Box<ClientLine<'a, R>>> {
         for _ in self.rt.forever() {
             if let Some(place) = self.places.turn() {
                 if let Some(line) = self.advance(place) {
@@ -259,13 +259,17 @@ impl<'a, R: Wait + time::Clock> Serving<'a, R> {
     }
 
     /// A line over a new stream. None where there is no memory.
-    fn line_over(&self, origin: Origin) -> Option<Box<Line<'a, R>>> {
+    fn line_over(&self, origin: Origin) -> Option<Box<ClientLine<'a, R>>> {
         let posts = Arc::try_clone(self.entrance.posts()).ok()?;
-        Box::new(self.alloc, Line::new(self.rt, self.alloc, posts, origin)).ok()
+        Box::new(
+            self.alloc,
+            ClientLine::new(self.rt, self.alloc, posts, origin),
+        )
+        .ok()
     }
 
     /// Does what can be done at once for the connection of a place, and gives it where its message is to be served.
-    fn advance(&mut self, place: usize) -> Option<Box<Line<'a, R>>> {
+    fn advance(&mut self, place: usize) -> Option<Box<ClientLine<'a, R>>> {
         let mut line = self.places.take(place)?;
         if !self.is_alone() && !line.stop_lingering() {
             self.close(line);
@@ -286,7 +290,7 @@ impl<'a, R: Wait + time::Clock> Serving<'a, R> {
     }
 
     /// A connection that is to be served. One that has no other beside it is lent the piece, so that it may linger.
-    fn lend(&mut self, mut line: Box<Line<'a, R>>) -> Box<Line<'a, R>> {
+    fn lend(&mut self, mut line: Box<ClientLine<'a, R>>) -> Box<ClientLine<'a, R>> {
         let piece = if self.is_alone() {
             mem::replace(&mut self.piece, Vec::new(self.alloc))
         } else {
@@ -297,7 +301,7 @@ impl<'a, R: Wait + time::Clock> Serving<'a, R> {
     }
 
     /// Takes the piece back that a connection was lent.
-    fn take_piece(&mut self, line: &mut Line<'a, R>) {
+    fn take_piece(&mut self, line: &mut ClientLine<'a, R>) {
         let piece = line.take_piece();
         if !piece.is_empty() {
             self.piece = piece;
@@ -305,14 +309,14 @@ impl<'a, R: Wait + time::Clock> Serving<'a, R> {
     }
 
     /// Takes a connection back that has no whole message: it waits for one.
-    pub fn rest(&mut self, mut line: Box<Line<'a, R>>) {
+    pub fn rest(&mut self, mut line: Box<ClientLine<'a, R>>) {
         self.take_piece(&mut line);
         line.begin_rest();
         self.park(line);
     }
 
     /// Takes a connection back after its last message.
-    pub fn finish(&mut self, mut line: Box<Line<'a, R>>) {
+    pub fn finish(&mut self, mut line: Box<ClientLine<'a, R>>) {
         self.take_piece(&mut line);
         if line.has_ended() && !line.has_unsent() {
             self.close(line);
@@ -323,7 +327,7 @@ impl<'a, R: Wait + time::Clock> Serving<'a, R> {
     }
 
     /// Closes a connection.
-    pub fn close(&mut self, mut line: Box<Line<'a, R>>) {
+    pub fn close(&mut self, mut line: Box<ClientLine<'a, R>>) {
         self.take_piece(&mut line);
         let held = line.held();
         let place = line.place();
@@ -348,7 +352,7 @@ impl<'a, R: Wait + time::Clock> Serving<'a, R> {
 
     /// Puts a connection into its place. Where it and others hold too much, those that hold much and wait for longest are
     /// closed.
-    fn park(&mut self, mut line: Box<Line<'a, R>>) {
+    fn park(&mut self, mut line: Box<ClientLine<'a, R>>) {
         let (before, after) = line.count();
         self.hold(before, after);
         self.places.put(line, self.entrance.rest());
@@ -372,7 +376,7 @@ impl<'a, R: Wait + time::Clock> Serving<'a, R> {
     }
 
     /// Closes a connection where there is one. Answers whether there was.
-    fn close_found(&mut self, found: Option<Box<Line<'a, R>>>) -> bool {
+    fn close_found(&mut self, found: Option<Box<ClientLine<'a, R>>>) -> bool {
         match found {
             Some(line) => {
                 self.close(line);

@@ -7,7 +7,7 @@ ghost use Rattle.ocm_turn.specs.Rule.{newcomer, IsIdle};
 ghost use Rattle.ocm_turn.specs.Steps.{named, ticketed, found_at, turned_to, finished, called, HasInHand, IsLegal, parted, beside, joined, Sound};
 ghost use Rattle.ocm_turn.specs.declared.view.Stage.TheVariants.{Named};
 
-use crate::rule::{Cut, Draw, Finish, Founded, Glue, Law, Look, Name, Ring, Start, Told};
+use crate::rule::{Cut, Draw, Finish, Founded, Glue, Law, LookAtDone, Name, Ring, Start, Told};
 use crate::turnstile::Spent;
 use crate::view::View;
 use atomic_table::{Seat, Table};
@@ -34,7 +34,7 @@ const ASLEEP: u64 = 1;
 const VALUE: usize = 0;
 
 /// A seat at the table behind a turnstile.
-pub type Place<T: Object> = Seat<Option<T>, View<T::Terms>>;
+pub type TurnSeat<T: Object> = Seat<Option<T>, View<T::Terms>>;
 
 /// The word on which the caller with this ticket sleeps.
 fn bell_of(ticket: u64) -> usize
@@ -44,22 +44,26 @@ fn bell_of(ticket: u64) -> usize
 }
 
 /// The table behind a turnstile, with the steps that keep its rule.
-pub struct Board<T: Object> {
+pub struct TurnTable<T: Object> {
     table: Table<Option<T>, View<T::Terms>, Start<T>, Law<T>, Global>,
     limit: u64,
     ghost limits: { (table.shared.key.limit ≡ limit) × (1 ≤ limit) × (limit ≤ 2 ^ 63) },
     ghost counts: { (table.shared.table_id.words ≡ 66) × (table.shared.table_id.slots ≡ 1) },
 }
 
-impl<T: Object + Drop> Drop for Board<T> {
+impl<T: Object + Drop> Drop for TurnTable<T> {
     fn drop(self) {
-        let Board { table: _, limit: _ } = self;
+        let TurnTable { table: _, limit: _ } = self;
     }
 }
 
-impl<T: Object> Board<T> {
+impl<T: Object> TurnTable<T> {
     /// A board with the value at home, and its first seat. An `Err` is want of memory.
-    pub fn make<J: Founded>(alloc: Global, value: T, limit: u64) -> Result<(Board<T>, Place<T>), T>
+    pub fn make<J: Founded>(
+        alloc: Global,
+        value: T,
+        limit: u64,
+    ) -> Result<(TurnTable<T>, TurnSeat<T>), T>
         requires limit { (1 ≤ limit) × (limit ≤ 2 ^ 63) }
         requires value { (base : List Entry) × J.known base × T.stands value base [] × T.legal (T.terms value) base [] }
         ensures own { IfOk result (λ r. (r.1.table_id ≡ r.0.table.shared.table_id) × (r.0.limit ≡ limit)) }
@@ -77,7 +81,7 @@ impl<T: Object> Board<T> {
         }
         match Table::new(alloc, &[0; 66], slots, &about) {
             Ok((table, mut seat)) => {
-                let board = Board { table, limit };
+                let board = TurnTable { table, limit };
                 board.name::<Brand>(&mut seat);
                 Ok((board, seat))
             }
@@ -88,7 +92,7 @@ impl<T: Object> Board<T> {
         }
     }
 
-    fn name<J: Founded>(&self, seat: &mut Place<T>)
+    fn name<J: Founded>(&self, seat: &mut TurnSeat<T>)
         requires own { (seat.old.table_id ≡ self.now.table.shared.table_id) × (seat.old.me ≡ (newcomer self.now.table.shared.key.limit (T.terms self.now.table.shared.key.value.value), [])) }
         requires value { (base : List Entry) × J.known base × T.stands self.now.table.shared.key.value.value base [] × T.legal (T.terms self.now.table.shared.key.value.value) base [] }
         ensures own { seat.new.table_id ≡ seat.old.table_id }
@@ -98,7 +102,7 @@ impl<T: Object> Board<T> {
     }
 
     /// Draws a ticket below the limit, or none where the word that was found is not below it.
-    pub fn draw<R: Wait>(&self, rt: &R, seat: &mut Place<T>) -> Option<u64>
+    pub fn draw<R: Wait>(&self, rt: &R, seat: &mut TurnSeat<T>) -> Option<u64>
         requires own { (seat.old.table_id ≡ self.now.table.shared.table_id) × IsIdle seat.old.me.0 × (seat.old.me.1 ≡ []) }
         ensures own { (seat.new.table_id ≡ seat.old.table_id) × (seat.new.me.1 ≡ []) }
         ensures some { IfSome result (λ n. (seat.new.me.0 ≡ ticketed seat.old.me.0 n) × (n < self.now.limit) × (seat.old.me.0.drawn ≤ n)) }
@@ -121,7 +125,7 @@ impl<T: Object> Board<T> {
     }
 
     /// Draws a ticket behind all others, also at the limit.
-    pub fn draw_last<R: Wait>(&self, rt: &R, seat: &mut Place<T>) -> u64
+    pub fn draw_last<R: Wait>(&self, rt: &R, seat: &mut TurnSeat<T>) -> u64
         requires own { (seat.old.table_id ≡ self.now.table.shared.table_id) × IsIdle seat.old.me.0 × (seat.old.me.1 ≡ []) }
         ensures own { (seat.new.table_id ≡ seat.old.table_id) × (seat.new.me.1 ≡ []) }
         ensures ticket { seat.new.me.0 ≡ ticketed seat.old.me.0 result }
@@ -142,7 +146,7 @@ impl<T: Object> Board<T> {
     }
 
     /// Returns at the turn of the ticket, with the value in the seat's hands. Sleeps until then.
-    pub fn wait_turn<R: Wait>(&self, rt: &R, seat: &mut Place<T>, ticket: u64)
+    pub fn wait_turn<R: Wait>(&self, rt: &R, seat: &mut TurnSeat<T>, ticket: u64)
         requires own { seat.old.table_id ≡ self.now.table.shared.table_id }
         requires ticket { (seat.old.me.0.ticket ≡ Some ticket) × (seat.old.me.0.turn ≡ false) × (seat.old.me.0.stage ≡ Named) × (seat.old.me.1 ≡ []) }
         ensures own { seat.new.table_id ≡ seat.old.table_id }
@@ -154,7 +158,7 @@ impl<T: Object> Board<T> {
     {
         for _ in rt.forever() {
             let asleep = self.watch(seat, ticket);
-            let done = self.table.shared.load::<Look>(seat, DONE);
+            let done = self.table.shared.load::<LookAtDone>(seat, DONE);
             if done == ticket {
                 return;
             }
@@ -167,7 +171,7 @@ impl<T: Object> Board<T> {
 
     /// Looks for a while whether the turn of the ticket has come. Where it has not, says at the bell that the caller goes
     /// to sleep, and answers what the bell shows then.
-    fn watch(&self, seat: &mut Place<T>, ticket: u64) -> u64
+    fn watch(&self, seat: &mut TurnSeat<T>, ticket: u64) -> u64
         requires own { (seat.old.table_id ≡ self.now.table.shared.table_id) × (seat.old.me.0.stage ≡ Named) }
         ensures same { (seat.new.table_id ≡ seat.old.table_id) × (seat.new.me ≡ seat.old.me) }
     {
@@ -183,7 +187,7 @@ impl<T: Object> Board<T> {
     }
 
     /// Asks the value in the seat's hands. It stays in its slot: nothing of it is moved.
-    fn ask_value(&self, seat: &mut Place<T>, ask: Ask) -> Reply
+    fn ask_value(&self, seat: &mut TurnSeat<T>, ask: Ask) -> Reply
         requires own { seat.old.table_id ≡ self.now.table.shared.table_id }
         requires proper { IsTrue (is_proper ask) }
         requires value { HasInHand T.terms T.stands T.legal seat.old.me seat.old.me.0.seen }
@@ -197,7 +201,7 @@ impl<T: Object> Board<T> {
     }
 
     /// Takes the value out.
-    fn take_out(&self, mut seat: Place<T>) -> T
+    fn take_out(&self, mut seat: TurnSeat<T>) -> T
         requires own { seat.table_id ≡ self.now.table.shared.table_id }
         requires holds { (x : T) × (seat.me.1 ≡ (0, Some x) ∷ []) }
         ensures value { seat.me.1 ≡ (0, Some result) ∷ [] }
@@ -206,7 +210,7 @@ impl<T: Object> Board<T> {
     }
 
     /// Ends a call: the history gets its entry, and the next ticket has its turn.
-    pub fn finish<E: Told>(&self, seat: &mut Place<T>, ask: &Snapshot<Ask>, reply: &Reply)
+    pub fn finish<E: Told>(&self, seat: &mut TurnSeat<T>, ask: &Snapshot<Ask>, reply: &Reply)
         requires own { seat.old.table_id ≡ self.now.table.shared.table_id }
         requires told { E.told ≡ entry ask.now.value reply.now }
         requires turn { (seat.old.me.0.turn ≡ true) × (seat.old.me.0.stage ≡ Named) }
@@ -224,7 +228,7 @@ impl<T: Object> Board<T> {
     }
 
     /// Wakes the caller with this ticket. One that is about to sleep finds its bell rung, and does not.
-    fn ring(&self, seat: &mut Place<T>, ticket: u64)
+    fn ring(&self, seat: &mut TurnSeat<T>, ticket: u64)
         requires own { (seat.old.table_id ≡ self.now.table.shared.table_id) × (seat.old.me.0.stage ≡ Named) }
         ensures same { (seat.new.table_id ≡ seat.old.table_id) × (seat.new.me ≡ seat.old.me) }
     {
@@ -237,7 +241,12 @@ impl<T: Object> Board<T> {
     }
 
     /// One call: draws a ticket, waits for its turn, and asks the value.
-    pub fn take_turn<R: Wait>(&self, rt: &R, seat: &mut Place<T>, ask: Ask) -> Result<Reply, Spent>
+    pub fn take_turn<R: Wait>(
+        &self,
+        rt: &R,
+        seat: &mut TurnSeat<T>,
+        ask: Ask,
+    ) -> Result<Reply, Spent>
         requires own { (seat.old.table_id ≡ self.now.table.shared.table_id) × IsIdle seat.old.me.0 × (seat.old.me.1 ≡ []) }
         requires proper { IsTrue (is_proper ask) }
         ensures own { (seat.new.table_id ≡ seat.old.table_id) × (seat.new.me.1 ≡ []) }
@@ -257,7 +266,7 @@ impl<T: Object> Board<T> {
     }
 
     /// The last turn, which is no call: takes the value out for good, and answers the number of calls.
-    pub fn take_last<R: Wait>(&self, rt: &R, mut seat: Place<T>) -> (T, u64)
+    pub fn take_last<R: Wait>(&self, rt: &R, mut seat: TurnSeat<T>) -> (T, u64)
         requires own { (seat.table_id ≡ self.now.table.shared.table_id) × IsIdle seat.me.0 × (seat.me.1 ≡ []) }
         ensures terms { seat.me.0.terms ≡ Some (T.terms result.0) }
         ensures history { (history : List Entry) × T.stands result.0 seat.me.0.base history × T.legal (T.terms result.0) seat.me.0.base history
@@ -273,7 +282,7 @@ impl<T: Object> Board<T> {
     }
 
     /// Cuts a seat in two: the new one has seen the same and made no call, and has one of the parts.
-    pub fn split(&self, seat: &mut Place<T>) -> Place<T>
+    pub fn split(&self, seat: &mut TurnSeat<T>) -> TurnSeat<T>
         requires own { (seat.old.table_id ≡ self.now.table.shared.table_id) × IsIdle seat.old.me.0 × (seat.old.me.1 ≡ []) }
         ensures same { (seat.new.table_id ≡ seat.old.table_id) × (seat.new.me ≡ (parted seat.old.me.0, [])) }
         ensures new { (result.table_id ≡ seat.old.table_id) × (result.me ≡ (beside seat.old.me.0, [])) }
@@ -282,13 +291,13 @@ impl<T: Object> Board<T> {
     }
 
     /// Makes one seat of two. The look after it shows what the rule says of both.
-    pub fn join(&self, seat: &mut Place<T>, other: Place<T>)
+    pub fn join(&self, seat: &mut TurnSeat<T>, other: TurnSeat<T>)
         requires own { (seat.old.table_id ≡ self.now.table.shared.table_id) × IsIdle seat.old.me.0 × (seat.old.me.1 ≡ []) }
         requires other { (other.table_id ≡ self.now.table.shared.table_id) × IsIdle other.me.0 × (other.me.1 ≡ []) }
         ensures own { (seat.new.table_id ≡ seat.old.table_id) × (seat.new.me ≡ (joined seat.old.me.0 other.me.0, [])) }
         ensures sound { Sound seat.new.me.0 × (length seat.new.me.0.mine ≤ seat.new.me.0.limit + 1) }
     {
         self.table.shared.join_seat::<Glue>(seat, other);
-        self.table.shared.load::<Look>(seat, DONE);
+        self.table.shared.load::<LookAtDone>(seat, DONE);
     }
 }

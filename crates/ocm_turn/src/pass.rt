@@ -1,7 +1,7 @@
 ghost use Rattle.std.specs.Prelude.{◌≡◌, ◌≤◌, ◌^◌, length, true, is_some};
 ghost use Rattle.ocm_turn.specs.Calls.{StandIn, InOrder};
 
-use crate::board::Place;
+use crate::board::TurnSeat;
 use ocm_entry::Object;
 use std::marker::Model;
 
@@ -12,7 +12,7 @@ use std::marker::Model;
 /// A pass that has all parts again is the only one left, and has made every call of the turnstile.
 #[derive(Drop)]
 pub struct Pass<T: Object> {
-    pub(crate) seat: Place<T>,
+    pub(crate) seat: TurnSeat<T>,
     pub(crate) calls: u64,
     ghost named: { is_some seat.me.0.terms ≡ true },
 }

@@ -64,9 +64,9 @@ impl<T, G> Play<Option<T>, View<G>> for Ring {
 }
 
 /// A look at the number of calls done.
-pub struct Look;
+pub struct LookAtDone;
 
-impl<T: Object> Play<Option<T>, View<T::Terms>> for Look {
+impl<T: Object> Play<Option<T>, View<T::Terms>> for LookAtDone {
     ghost then = { looks T.terms T.stands T.legal };
 }
 

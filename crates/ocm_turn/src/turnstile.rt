@@ -4,7 +4,7 @@ ghost use Rattle.ocm_entry.specs.declared.entries.Entry.{Entry};
 ghost use Rattle.ocm_turn.specs.Calls.{entry, call, IsOlderPart, StandIn, InOrder, longer, merged};
 ghost use Rattle.ocm_turn.specs.Passes.{BelongsTo, SameGround, all_parts};
 
-use crate::board::Board;
+use crate::board::TurnTable;
 use crate::pass::Pass;
 use crate::rule::Founded;
 use ocm_base::NoMemory;
@@ -30,7 +30,7 @@ pub struct Shut<T> {
 /// are those of one legal history. Threads share a turnstile by reference, and each has a [`Pass`] of
 /// its own.
 pub struct Turnstile<T: Object> {
-    board: Board<T>,
+    board: TurnTable<T>,
 }
 
 impl<T: Object + Drop> Drop for Turnstile<T> {
@@ -65,7 +65,7 @@ impl<T: Object> Turnstile<T> {
         ensures whole { IfOk result (λ r. r.1.parts ≡ all_parts) }
         ensures err { IfErr result (λ v. v ≡ value) }
     {
-        match Board::make::<J>(alloc, value, limit) {
+        match TurnTable::make::<J>(alloc, value, limit) {
             Ok((board, seat)) => Ok((Turnstile { board }, Pass { seat, calls: 0 })),
             Err(value) => Err(value),
         }

@@ -3,7 +3,7 @@ use Rattle.std.proofs.Common.{◌≡◌, inr, ℕ, List, [], ◌∷◌, ◌||◌
 use Rattle.std.specs.List.{list_any}
 use Rattle.ocm_disk.specs.Memory.{DiskState}
 use Rattle.ocm_disk.specs.Shelf.{bytes_of, disk_of, is_of}
-use Rattle.ocm_disk.specs.declared.shelf.Place.{Place}
+use Rattle.ocm_disk.specs.declared.shelf.ShelfPlace.{ShelfPlace}
 use Rattle.ocm_rules.specs.Numbers.{same_text}
 use Rattle.ocm_script.specs.declared.events.Event.{Event}
 use Rattle.ocm_script_run.specs.Servers.{World}
@@ -12,7 +12,7 @@ use Rattle.ocm_script_run.proofs.Hosts.{is_there, logged-run, there-end}
 use Rattle.ocm_world.specs.Shelves.{AreShelved}
 
 -- the disk of a server that is there is on the shelf
-disk-there : (world : World) (places : List Place) (host : List ℕ) → AreShelved world places → is_there host world ≡ true → (disk : DiskState) × (disk_of host places ≡ Some disk)
+disk-there : (world : World) (places : List ShelfPlace) (host : List ℕ) → AreShelved world places → is_there host world ≡ true → (disk : DiskState) × (disk_of host places ≡ Some disk)
 disk-there [] [] host are there = absurd (cc)
 disk-there [] (place ∷ places) host are there = absurd are
 disk-there (server ∷ others) [] host are there = absurd are
@@ -29,7 +29,7 @@ disk-there (server ∷ others) (place ∷ places) host are there = by_test (same
         (found.0, ap (λ (b : Bool). if b then place.disk else disk_of host places) other ∙ found.1)
 
 -- the image of a server that the script names is on the shelf
-pub image-there : (final : World) (host : List ℕ) (es : List Event) (log : List ℕ) (places : List Place) → Logged [] 1 host es log final → list_any (names host) es ≡ true → AreShelved final places
+pub image-there : (final : World) (host : List ℕ) (es : List Event) (log : List ℕ) (places : List ShelfPlace) → Logged [] 1 host es log final → list_any (names host) es ≡ true → AreShelved final places
     → (image : List ℕ) × (bytes_of (disk_of host places) ≡ Some image)
 image-there final host es log places logged named are =
     let ran = logged-run [] final 1 host es log logged in

@@ -34,18 +34,18 @@ use Rattle.ocm_store.specs.declared.terms.Terms.{Terms}
 use Rattle.ocm_store.proofs.Journaling.{live-opens}
 use Rattle.ocm_store.proofs.Opens.{areas-same, opens-loaded, opens-once}
 use Rattle.ocm_journal_image.proofs.OneImage.{blank_is_none}
-use Rattle.ocm_world.specs.declared.nodes.Node.{Node}
+use Rattle.ocm_world.specs.declared.nodes.RunningServer.{RunningServer}
 use Rattle.ocm_script_run.specs.Servers.{Server, area, history, is_kept, kept_by_crash, live_left, message_of, new_live, new_server, restart}
 use Rattle.ocm_script_run.specs.Running.{IsSound}
 use Rattle.ocm_world.specs.Running.{IsDiskOf, IsLoaded, IsOf}
 use Rattle.ocm_script_run.proofs.Acting.{alike-after}
 
 -- what a server opened to with its calls has the lean list of its history
-pub alike-history : (node : Node) (server : Server) (is : IsOf node server) → lean server.host (server.calls ++ is.opened) ≡ lean server.host (history server)
+pub alike-history : (node : RunningServer) (server : Server) (is : IsOf node server) → lean server.host (server.calls ++ is.opened) ≡ lean server.host (history server)
 alike-history node server is = alike-after server.host server.calls is.opened server.base is.alike
 
 -- a store and its server have the same host
-pub same-host : (node : Node) (server : Server) → IsOf node server → host_of node.store ≡ server.host
+pub same-host : (node : RunningServer) (server : Server) → IsOf node server → host_of node.store ≡ server.host
 same-host node server is = ap (λ (t : Terms). t.host) is.terms
 
 -- the areas of a store that was loaded
@@ -102,7 +102,7 @@ crash-stands store host k h live mode terms fine has stands =
 blank_disk : (host : List ℕ) → IsBlank host area []
 blank_disk host = search rules
 
-pub new-of : (node : Node) (host : List ℕ) → IsLoaded [] host 0 node → IsOf node (new_server host)
+pub new-of : (node : RunningServer) (host : List ℕ) → IsLoaded [] host 0 node → IsOf node (new_server host)
 new-of node host loaded =
     let has = loaded.live new_live (inr (Empty, refl, refl)) in
     record {
@@ -128,14 +128,14 @@ kept-alike true host None g other same = same
 kept-alike false host faulted g other same = same
 
 -- what a crash leaves of a server's disk
-left-by : (node : Node) (server : Server) (mode : Crash) (is : IsOf node server)
+left-by : (node : RunningServer) (server : Server) (mode : Crash) (is : IsOf node server)
     → LeavesNext (record { host = server.host; area = area }) is.opened server.calls None (left_by mode (disk_of node.store).images)
 left-by node server mode is =
     subst (λ (t : Terms). LeavesNext t is.opened server.calls None (left_by mode (disk_of node.store).images)) is.terms
     (is.stands.leaves tt (left_by mode (disk_of node.store).images) (left_leaves mode (disk_of node.store).images))
 
 -- what a crash leaves of a server, loaded again
-pub crashed-of : (node after : Node) (server : Server) (mode : Crash) (disk : DiskState) (limit : ℕ) → IsOf node server
+pub crashed-of : (node after : RunningServer) (server : Server) (mode : Crash) (disk : DiskState) (limit : ℕ) → IsOf node server
     → disk ≡ settled (left_by mode (disk_of node.store).images) limit → IsLoaded disk.images.seen node.host node.clock after
     → IsOf after (restart mode server)
 crashed-of node after server mode disk limit is left loaded =
@@ -165,7 +165,7 @@ crashed-of node after server mode disk limit is left loaded =
     }
 
 -- what a crash leaves of a server's disk is a disk of its own
-pub crashed-own : (node : Node) (server : Server) (mode : Crash) (disk : DiskState) (limit : ℕ) → IsOf node server
+pub crashed-own : (node : RunningServer) (server : Server) (mode : Crash) (disk : DiskState) (limit : ℕ) → IsOf node server
     → disk ≡ settled (left_by mode (disk_of node.store).images) limit → IsDiskOf node.host disk.images.seen
 crashed-own node server mode disk limit is left =
     let leaves = left-by node server mode is in
@@ -184,7 +184,7 @@ new-sound disk limit is = subst (λ (d : DiskState). IsSound d None) (sym is) (r
 -- ---- a fuse
 
 -- with another fuse
-pub fused-of : (node : Node) (server : Server) (new : Store DiskState ghosts) (calls : ℕ) → IsOf node server
+pub fused-of : (node : RunningServer) (server : Server) (new : Store DiskState ghosts) (calls : ℕ) → IsOf node server
     → disk_of new ≡ record (disk_of node.store) { fuse = Some calls } → terms_of new ≡ terms_of node.store
     → ((k h : List Entry) → Stands ghosts node.store k h → Stands ghosts new k h) → ((host : List ℕ) (live : LiveArea) → HasLiveArea ghosts host live node.store → HasLiveArea ghosts host live new)
     → IsOf (record node { store = new }) (record server { fuse = Some calls })
@@ -204,7 +204,7 @@ fused-of node server new calls is disk terms stands live = record {
       (sym (ap (λ (d : DiskState). d.images) disk)) (is.crash mode);
 }
 
-pub clocked-of : (node : Node) (server : Server) (clock : ℕ) → IsOf node server → IsOf (record node { clock = clock }) (record server { clock = clock })
+pub clocked-of : (node : RunningServer) (server : Server) (clock : ℕ) → IsOf node server → IsOf (record node { clock = clock }) (record server { clock = clock })
 clocked-of node server clock is = record {
   host = is.host;
   clock = refl;
@@ -221,18 +221,18 @@ clocked-of node server clock is = record {
 
 -- ---- what is read
 
-pub message-same : (node : Node) (server : Server) (number : ℕ) (is : IsOf node server)
+pub message-same : (node : RunningServer) (server : Server) (number : ℕ) (is : IsOf node server)
     → option_map (λ message. as_sent (number, message)) (at_number (out (host_of node.store) (kept (host_of node.store) (server.calls ++ is.opened))) number) ≡ message_of server number
 message-same node server number is =
     ap (λ h. option_map (λ message. as_sent (number, message)) (at_number (out h (kept h (server.calls ++ is.opened))) number)) (same-host node server is)
     ∙ ap (λ (v : View). option_map (λ message. as_sent (number, message)) (at_number v.messages number))
     (view-same server.host (server.calls ++ is.opened) (history server) (alike-history node server is))
 
-pub count-of : (node : Node) (server : Server) (is : IsOf node server) → count (host_of node.store) (server.calls ++ is.opened) ≡ count server.host (history server)
+pub count-of : (node : RunningServer) (server : Server) (is : IsOf node server) → count (host_of node.store) (server.calls ++ is.opened) ≡ count server.host (history server)
 count-of node server is =
     ap (λ h. count h (server.calls ++ is.opened)) (same-host node server is) ∙ count-same server.host (server.calls ++ is.opened) (history server) (alike-history node server is)
 
-pub moment-of : (node : Node) (server : Server) (is : IsOf node server) → moment (kept (host_of node.store) (server.calls ++ is.opened)) ≡ moment (kept server.host (history server))
+pub moment-of : (node : RunningServer) (server : Server) (is : IsOf node server) → moment (kept (host_of node.store) (server.calls ++ is.opened)) ≡ moment (kept server.host (history server))
 moment-of node server is =
     ap (λ h. moment (kept h (server.calls ++ is.opened))) (same-host node server is)
     ∙ ap (λ (v : View). v.moment) (view-same server.host (server.calls ++ is.opened) (history server) (alike-history node server is))

@@ -10,7 +10,7 @@ use Rattle.ocm_law_sessions.specs.Sessions.{heard}
 use Rattle.ocm_law_sessions.proofs.Replying.{heard-same}
 use Rattle.ocm_store.specs.Stores.{LeavesNext, disk_of}
 use Rattle.ocm_store.specs.declared.terms.Terms.{Terms}
-use Rattle.ocm_world.specs.declared.nodes.Node.{Node}
+use Rattle.ocm_world.specs.declared.nodes.RunningServer.{RunningServer}
 use Rattle.ocm_script_run.specs.Servers.{Server, World, area, history}
 use Rattle.ocm_world.specs.Running.{AreOf, IsOf, shelved}
 use Rattle.ocm_world.specs.Shelves.{AreShelved, IsShelved}
@@ -23,7 +23,7 @@ next-same host g other None next same (inr is) = absurd is
 next-same host g other (Some ask) next same (inr is) =
     inr (is ∙ ap (λ e. lean host (e ∷ g)) (heard-same host g other ask same) ∙ lean-goes_on host (heard host other ask) g other same)
 
-pub shelved-one : (node : Node) (server : Server) → IsOf node server → IsShelved server (shelved node)
+pub shelved-one : (node : RunningServer) (server : Server) → IsOf node server → IsShelved server (shelved node)
 shelved-one node server is =
     let reads : LeavesNext (record { host = server.host; area = area }) is.opened server.calls None (disk_of node.store).images.seen =
     subst (λ (t : Terms). LeavesNext t is.opened server.calls None (disk_of node.store).images.seen) is.terms (is.stands.reads tt) in
@@ -38,7 +38,7 @@ shelved-one node server is =
       );
     }
 
-pub shelved-all : (nodes : List Node) (world : World) → AreOf nodes world → AreShelved world (map shelved nodes)
+pub shelved-all : (nodes : List RunningServer) (world : World) → AreOf nodes world → AreShelved world (map shelved nodes)
 shelved-all [] [] are = tt
 shelved-all [] (server ∷ others) are = absurd are
 shelved-all (node ∷ more) [] are = absurd are

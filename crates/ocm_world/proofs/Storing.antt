@@ -24,7 +24,7 @@ use Rattle.ocm_store.specs.Fitting.{session-fits}
 use Rattle.ocm_store.specs.Growing as stores
 use Rattle.ocm_store.specs.Growing.{HasLiveArea, OpensLive}
 use Rattle.ocm_store.specs.Stores.{IsLegalUnder, Stands, disk_of, host_of, terms_of}
-use Rattle.ocm_world.specs.declared.nodes.Node.{Node}
+use Rattle.ocm_world.specs.declared.nodes.RunningServer.{RunningServer}
 use Rattle.ocm_script_run.specs.Servers.{Server, area, cut_after, cut_of, history, live_after, reply_of, server_after, with_call}
 use Rattle.ocm_world.specs.Running.{IsOf}
 use Rattle.ocm_script_run.proofs.Acting.{Tells, no_fault-before, replies, sound-after}
@@ -49,22 +49,22 @@ pub record Called (old new : MemStore) (ask : Ask) (reply : Reply) : Type 0 wher
   pub journal : Grows ghosts old new ask reply
 
 -- the calls so far, as the store's terms have them
-law : (node : Node) (server : Server) (is : IsOf node server) → IsLegalUnder (terms_of node.store) is.opened server.calls
+law : (node : RunningServer) (server : Server) (is : IsOf node server) → IsLegalUnder (terms_of node.store) is.opened server.calls
 law node server is = subst (λ (t : Terms). IsLegalUnder t is.opened server.calls) (sym is.terms) is.legal
 
-here : (node : Node) (server : Server) (is : IsOf node server) → StandsLegally ghosts node.store is.opened server.calls
+here : (node : RunningServer) (server : Server) (is : IsOf node server) → StandsLegally ghosts node.store is.opened server.calls
 here node server is = record { stands = is.stands; legal = law node server is }
 
 -- and with the call
-pub law-after : (node : Node) (server : Server) (new : MemStore) (ask : Ask) (reply : Reply) (is : IsOf node server) → Called node.store new ask reply
+pub law-after : (node : RunningServer) (server : Server) (new : MemStore) (ask : Ask) (reply : Reply) (is : IsOf node server) → Called node.store new ask reply
     → IsSession server.host area is.opened (record { ask = ask; reply = reply } ∷ server.calls)
 law-after node server new ask reply is called =
     subst (λ (t : Terms). IsLegalUnder t is.opened (record { ask = ask; reply = reply } ∷ server.calls)) is.terms (called.legal is.opened server.calls is.stands (law node server is))
 
-pub call-fits : (node : Node) (server : Server) (new : MemStore) (ask : Ask) (reply : Reply) → IsOf node server → Called node.store new ask reply → Fits ask reply
+pub call-fits : (node : RunningServer) (server : Server) (new : MemStore) (ask : Ask) (reply : Reply) → IsOf node server → Called node.store new ask reply → Fits ask reply
 call-fits node server new ask reply is called = session-fits server.host area is.opened server.calls ask reply (law-after node server new ask reply is called)
 
-tells-of : (node : Node) (server : Server) (new : MemStore) (ask : Ask) (reply : Reply) (is : IsOf node server) → Called node.store new ask reply
+tells-of : (node : RunningServer) (server : Server) (new : MemStore) (ask : Ask) (reply : Reply) (is : IsOf node server) → Called node.store new ask reply
     → Tells server (server.calls ++ is.opened) ask reply (disk_of node.store) (disk_of new)
 tells-of node server new ask reply is called =
     let there = here node server is in
@@ -87,11 +87,11 @@ tells-of node server new ask reply is called =
 -- ---- the live area
 
 -- the live area of its journal, as the store has it
-own-live : (node : Node) (server : Server) (is : IsOf node server) → fault_in server.calls ≡ None → HasLiveArea ghosts (host_of node.store) server.live node.store
+own-live : (node : RunningServer) (server : Server) (is : IsOf node server) → fault_in server.calls ≡ None → HasLiveArea ghosts (host_of node.store) server.live node.store
 own-live node server is fine = subst (λ h. HasLiveArea ghosts h server.live node.store) (sym (same-host node server is)) (is.live fine)
 
 -- after a call that told no fault
-live-called : (node : Node) (server : Server) (new : MemStore) (ask : Ask) (reply : Reply) (is : IsOf node server) → Called node.store new ask reply → fault_in server.calls ≡ None → count_of reply ≡ None
+live-called : (node : RunningServer) (server : Server) (new : MemStore) (ask : Ask) (reply : Reply) (is : IsOf node server) → Called node.store new ask reply → fault_in server.calls ≡ None → count_of reply ≡ None
     → HasLiveArea ghosts server.host (with_call server ask reply).live new
 live-called node server new ask reply is called fine told =
     let g : List Entry = server.calls ++ is.opened in
@@ -104,7 +104,7 @@ live-called node server new ask reply is called fine told =
     own
 
 -- what stands on the disk after one that told a fault
-fault-called : (node : Node) (server : Server) (new : MemStore) (ask : Ask) (count left : ℕ) (is : IsOf node server) → Called node.store new ask (DiskFault count) → fault_in server.calls ≡ None → server.fuse ≡ Some left
+fault-called : (node : RunningServer) (server : Server) (new : MemStore) (ask : Ask) (count left : ℕ) (is : IsOf node server) → Called node.store new ask (DiskFault count) → fault_in server.calls ≡ None → server.fuse ≡ Some left
     → AfterFault ghosts left (stores.switches_to_second server.host area (server.calls ++ is.opened) ask server.live) (OpensLive server.host area (server.calls ++ is.opened) server.live)
     (OpensLive server.host area (heard server.host (server.calls ++ is.opened) ask ∷ (server.calls ++ is.opened)) (stores.grown_by server.host area (server.calls ++ is.opened) ask server.live)) (disk_of new)
 fault-called node server new ask count left is called fine fuse =
@@ -117,7 +117,7 @@ fault-called node server new ask count left is called fine fuse =
     (OpensLive t.host t.area (heard t.host g ask ∷ g) (stores.grown_by t.host t.area g ask server.live)) (disk_of new)) is.terms raw
 
 -- a disk that fails in a call has a fuse, by which less than four calls are left
-short-called : (node : Node) (server : Server) (new : MemStore) (ask : Ask) (count : ℕ) (is : IsOf node server) → Called node.store new ask (DiskFault count) → fault_in server.calls ≡ None
+short-called : (node : RunningServer) (server : Server) (new : MemStore) (ask : Ask) (count : ℕ) (is : IsOf node server) → Called node.store new ask (DiskFault count) → fault_in server.calls ≡ None
     → (left : ℕ) × (server.fuse ≡ Some left) × ((left ≤ 2) ⊎ (left ≡ 3))
 short-called node server new ask count is called fine = by_fuse server.fuse refl
   where
@@ -131,7 +131,7 @@ short-called node server new ask count is called fine = by_fuse server.fuse refl
     by_fuse (Some left) at = (left, at, few_left left (λ four. never (let P : Option ℕ → Type 0 = λ f. CanBurn f 4 in subst P (sym at) four)))
 
 -- what a crash leaves after a call
-crash-called : (node : Node) (server : Server) (new : MemStore) (ask : Ask) (reply : Reply) (is : IsOf node server) → Called node.store new ask reply
+crash-called : (node : RunningServer) (server : Server) (new : MemStore) (ask : Ask) (reply : Reply) (is : IsOf node server) → Called node.store new ask reply
     → IsReplyAfter server.host area (fault_in server.calls) (server.calls ++ is.opened) ask reply → (mode : Crash)
     → Keeps server is.opened ask reply mode (cut_after (count_of reply) server ask) (faulted (record { ask = ask; reply = reply } ∷ server.calls)) (with_call server ask reply).live (disk_of new).images
 crash-called node server new ask reply is called told mode = by_fault (fault_in server.calls) refl
@@ -174,7 +174,7 @@ crash-called node server new ask reply is called told mode = by_fault (fault_in 
         crash-stopped server is.opened ask reply mode count (disk_of node.store).images (disk_of new).images (subst P had told) (alike-history node server is) (sym (ap (λ (d : DiskState). d.images) same)) (is.crash mode)
 
 -- the store after a call stands for the server after it
-pub called-of : (node : Node) (server : Server) (new : MemStore) (ask : Ask) (reply : Reply) → IsOf node server → Called node.store new ask reply
+pub called-of : (node : RunningServer) (server : Server) (new : MemStore) (ask : Ask) (reply : Reply) → IsOf node server → Called node.store new ask reply
     → (wanting : Bool) × (reply ≡ reply_of wanting server ask) × IsOf (record node { store = new }) (server_after wanting server ask)
 called-of node server new ask reply is called =
     let g : List Entry = server.calls ++ is.opened in

@@ -3,7 +3,7 @@ use Rattle.std.specs.Prelude.{◌≡◌, ◌⊎◌, ℕ, List, [], ◌∷◌, �
 use Rattle.ocm_disk.specs.Memory.{left_by}
 use Rattle.ocm_disk.specs.contracts.memory.MemDiskDisk.TheImpl.{ghosts}
 use Rattle.ocm_disk.specs.declared.crashes.Crash.{Crash}
-use Rattle.ocm_disk.specs.declared.shelf.Place.{Place}
+use Rattle.ocm_disk.specs.declared.shelf.ShelfPlace.{ShelfPlace}
 use Rattle.ocm_entry.specs.declared.entries.Entry.{Entry}
 use Rattle.ocm_journal_image.specs.Blank.{IsBlank}
 use Rattle.ocm_journal.specs.LiveAreas.{BeginsWith, LiveArea}
@@ -14,12 +14,12 @@ use Rattle.ocm_law_sessions.specs.Sessions.{IsSession, fault_in}
 use Rattle.ocm_store.specs.Growing.{HasLiveArea, OpensLive}
 use Rattle.ocm_store.specs.Opening.{IsImageIn, OpensTo}
 use Rattle.ocm_store.specs.Stores.{Stands, disk_of, terms_of}
-use Rattle.ocm_world.specs.declared.nodes.Node.{Node}
+use Rattle.ocm_world.specs.declared.nodes.RunningServer.{RunningServer}
 use Rattle.ocm_script_run.specs.Running.{IsSound}
 use Rattle.ocm_script_run.specs.Servers.{Server, World, area, is_kept, kept_by_crash, live_left}
 
 -- The store of one server stands for it: its calls are the same, and what it opened to has the same lean list.
-pub record IsOf (node : Node) (server : Server) : Type 0 where
+pub record IsOf (node : RunningServer) (server : Server) : Type 0 where
   pub host : node.host ≡ server.host
   pub clock : node.clock ≡ server.clock
   pub terms : terms_of node.store ≡ record { host = server.host; area = area }
@@ -35,22 +35,22 @@ pub record IsOf (node : Node) (server : Server) : Type 0 where
   pub crash : (mode : Crash) → OpensLive server.host area (kept_by_crash (is_kept mode server.cut) server.host (faulted server.calls) (server.calls ++ opened)) (live_left (is_kept mode server.cut) server.cut server.live) (left_by mode (disk_of node.store).images)
 
 -- whether this is the server of this host
-abbrev pub is_at : List ℕ → Node → Bool
+abbrev pub is_at : List ℕ → RunningServer → Bool
 is_at host node = same_text node.host host
 
 -- the stores of the servers stand for them, one by one
-abbrev pub AreOf : List Node → World → Type 0
+abbrev pub AreOf : List RunningServer → World → Type 0
 AreOf [] [] = Unit {0}
 AreOf (node ∷ more) (server ∷ others) = IsOf node server × AreOf more others
 AreOf [] (server ∷ others) = ⊥
 AreOf (node ∷ more) [] = ⊥
 
 -- the place of a server's host, with its disk
-abbrev pub shelved : Node → Place
+abbrev pub shelved : RunningServer → ShelfPlace
 shelved node = record { host = node.host; disk = Some (disk_of node.store) }
 
 -- a server that was loaded from a disk of these bytes
-pub record IsLoaded (bytes own : List ℕ) (time : ℕ) (node : Node) : Type 0 where
+pub record IsLoaded (bytes own : List ℕ) (time : ℕ) (node : RunningServer) : Type 0 where
   pub host : node.host ≡ own
   pub clock : node.clock ≡ time
   pub terms : terms_of node.store ≡ record { host = own; area = area }

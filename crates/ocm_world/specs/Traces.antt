@@ -3,7 +3,7 @@ use Rattle.std.specs.Prelude.{◌≡◌, ◌≢◌, ◌⊎◌, ◌&&◌, ℕ, �
 use Rattle.ocm_texts.specs.Hex.{AreBytes}
 use Rattle.ocm_base.specs.Outside.{Appends}
 use Rattle.ocm_disk.specs.Shelf.{bytes_of, disk_of}
-use Rattle.ocm_disk.specs.declared.shelf.Place.{Place}
+use Rattle.ocm_disk.specs.declared.shelf.ShelfPlace.{ShelfPlace}
 use Rattle.ocm_path.specs.Paths.{Segments}
 use Rattle.ocm_entry.specs.declared.asks.Method.{Method}
 use Rattle.ocm_rules.specs.Numbers.{same_text}
@@ -43,13 +43,13 @@ Traced world number host (e ∷ events) text log final =
     × (text ≡ line.text ++ later) × (log ≡ first ++ rest) × Traced line.world (number + 1) host events later rest final
 
 -- the bytes added are the image of the host's disk, as the shelf has it, and the log of a run that leaves these servers
-abbrev pub Traces : List Event → List ℕ → Option (List ℕ) → Option (List ℕ) → World → List Place → Type 0
+abbrev pub Traces : List Event → List ℕ → Option (List ℕ) → Option (List ℕ) → World → List ShelfPlace → Type 0
 Traces events host old new final shelf =
     (text image log : List ℕ) × Traced [] 1 host events text log final
     × AreBytes image × (bytes_of (disk_of host shelf) ≡ Some image) × Appends old new (log_input image log)
 
 -- the bytes added are a prefix of these, and the shelf has the disks of these servers
-abbrev pub TracesPart : List Event → List ℕ → Option (List ℕ) → Option (List ℕ) → World → List Place → Type 0
+abbrev pub TracesPart : List Event → List ℕ → Option (List ℕ) → Option (List ℕ) → World → List ShelfPlace → Type 0
 TracesPart events host old new final shelf =
     (written rest text image log : List ℕ) × Traced [] 1 host events text log final × AreShelved final shelf
     × AreBytes image × (bytes_of (disk_of host shelf) ≡ Some image) × (written ++ rest ≡ log_input image log) × Appends old new written

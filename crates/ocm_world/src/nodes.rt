@@ -16,7 +16,7 @@ use ocm_types::{Host, Numbered};
 use std::alloc::Global;
 
 /// A server of a script: its host, its store, and what the last `clock` line told it, 0 before the first.
-pub struct Node {
+pub struct RunningServer {
     pub(crate) host: Host,
     pub(crate) store: Store<MemDisk>,
     pub(crate) clock: u64,
@@ -24,9 +24,9 @@ pub struct Node {
 
 /// The store is let go by way of its disk, so that the end of all that a store holds is proved where stores stand, and
 /// not here once more.
-impl Drop for Node {
+impl Drop for RunningServer {
     fn drop(self) {
-        let Node {
+        let RunningServer {
             host,
             store,
             clock: _,
@@ -37,7 +37,12 @@ impl Drop for Node {
 }
 
 /// Loads a server from its disk.
-pub fn load(alloc: Global, disk: MemDisk, host: &Host, clock: u64) -> Result<Node, NoMemory>
+pub fn load(
+    alloc: Global,
+    disk: MemDisk,
+    host: &Host,
+    clock: u64,
+) -> Result<RunningServer, NoMemory>
     requires sound { IsSound disk None }
     requires own { IsDiskOf host.now disk.images.seen }
     ensures { IfOk result (IsLoaded disk.images.seen host.now clock) }
@@ -47,7 +52,7 @@ pub fn load(alloc: Global, disk: MemDisk, host: &Host, clock: u64) -> Result<Nod
         return Err(NoMemory);
     };
     match Store::load(alloc, disk, label, REPLAYED_DISK_BYTES) {
-        Ok(store) => Ok(Node {
+        Ok(store) => Ok(RunningServer {
             host: own,
             store,
             clock,
@@ -79,7 +84,7 @@ fn no_memory(fault: LoadFault) -> NoMemory
     }
 }
 
-impl ScriptServer for Node {
+impl ScriptServer for RunningServer {
     ghost use Rattle.ocm_world.specs.Running.{IsOf};
 
     ghost stands = { λ node server. IsOf node server };
@@ -97,7 +102,7 @@ impl ScriptServer for Node {
     }
 }
 
-impl Node {
+impl RunningServer {
     /// Whether it is the server of this host.
     pub fn is_at(&self, host: &Host) -> bool
         ensures { result ≡ is_at host.now self.now }
@@ -142,11 +147,11 @@ impl Node {
     }
 
     /// What a crash leaves of it, loaded again.
-    pub fn restart(self, alloc: Global, left: Crash) -> Result<Node, NoMemory>
+    pub fn restart(self, alloc: Global, left: Crash) -> Result<RunningServer, NoMemory>
         requires { (server : Server) × IsOf self server }
         ensures { IfOk result (λ node. (server : Server) → IsOf self server → IsOf node (restart left server)) }
     {
-        let Node { host, store, clock } = self;
+        let RunningServer { host, store, clock } = self;
         let node = load(alloc, store.into_disk().crash(left), &host, clock);
         drop(host);
         node
@@ -156,7 +161,7 @@ impl Node {
     pub fn into_parts(self) -> (Host, MemDisk)
         ensures { result ≡ (self.host, disk_of self.store) }
     {
-        let Node {
+        let RunningServer {
             host,
             store,
             clock: _,

@@ -6,7 +6,7 @@ ghost use Rattle.ocm_world.specs.Running.{AreOf, is_at, shelved};
 ghost use Rattle.ocm_script_run.specs.Servers.{World};
 ghost use Rattle.ocm_world.specs.Shelves.{AreShelved, FirstShelved};
 
-use crate::nodes::{Node, load};
+use crate::nodes::{RunningServer, load};
 use ocm_base::{Bytes, NoMemory};
 use ocm_disk::{Crash, MemDisk, Shelf};
 use ocm_entry::{Ask, Reply};
@@ -18,15 +18,15 @@ use std::marker::Model;
 /// The servers of a script, in the order in which it names them.
 #[derive(Drop)]
 pub struct Servers {
-    nodes: Vec<Node>,
+    nodes: Vec<RunningServer>,
     alloc: Global,
 }
 
 impl Model for Servers {
     ghost use Rattle.std.specs.Prelude.{List};
-    ghost use Rattle.ocm_world.specs.declared.nodes.Node.{Node};
+    ghost use Rattle.ocm_world.specs.declared.nodes.RunningServer.{RunningServer};
 
-    ghost Value = { List Node };
+    ghost Value = { List RunningServer };
 
     ghost view = { λ s. s.nodes.items };
 }
@@ -137,7 +137,7 @@ impl ScriptServers for Servers {
 }
 
 /// Puts the disk of a server on the shelf, at a place of its own. Where memory runs out, the shelf stays as it is.
-fn shelve(shelf: &mut Shelf, node: Node) -> Result<(), NoMemory>
+fn shelve(shelf: &mut Shelf, node: RunningServer) -> Result<(), NoMemory>
     ensures ok { OnOk result (shelf.new ≡ shelf.old ++ shelved node ∷ []) }
     ensures err { OnErr result (shelf.new ≡ shelf.old) }
 {

@@ -1,7 +1,7 @@
 -- What the program promises for the words behind its name.
 use Rattle.std.specs.Prelude.{◌≡◌, ◌⊎◌, ℕ, List, [], Option, None, true, false, IfSome}
 use Rattle.ocm_base.specs.Outside.{Appends, AppendsPart, Rose}
-use Rattle.ocm_disk.specs.declared.shelf.Place.{Place}
+use Rattle.ocm_disk.specs.declared.shelf.ShelfPlace.{ShelfPlace}
 use Rattle.ocm_serve_options.specs.Plans.{asks_serve, orders_of}
 use Rattle.ocm_serve_system.specs.Statuses as serves
 use Rattle.ocm_commands_dav.specs.Words.{IsOther}
@@ -56,7 +56,7 @@ AloneEnds words status left old new =
     × (AreOther words → (status ≡ 1) ⊎ (status ≡ 4) ⊎ ((status ≡ 5) × BeginTrace words))
     × (AreOther words → status ≡ 4 → AppendsPart old new usage_line)
     × (AreOther words → status ≡ 5 → new ≡ old)
-    × ((shelf : List Place) × ((c : Command) → AreOf c words → IsWhole status
+    × ((shelf : List ShelfPlace) × ((c : Command) → AreOf c words → IsWhole status
     → IfSome (input_of c left) (λ bytes. (end : End) × (status ≡ end_status end) × Writes c bytes end old new shelf)))
     × ((c : Command) → AreOf c words → status ≡ 9 → IfSome (input_of c left) (IsLong c))
     × ((c : Command) → AreOf c words → (status ≡ 4) ⊎ (status ≡ 5) → IfSome (input_of c left) (λ bytes. WritesPart c bytes old new))

@@ -4,7 +4,7 @@ use Rattle.std.proofs.lemmas.Result.{err_from_is_err_and}
 use Rattle.ocm_base.specs.Outside.{Appends}
 use Rattle.ocm_drill.specs.Script.{made_script}
 use Rattle.ocm_script_run.proofs.Drilling.{DrillsPart-cut, texts-transcript}
-use Rattle.ocm_world.specs.declared.nodes.Node.{Node}
+use Rattle.ocm_world.specs.declared.nodes.RunningServer.{RunningServer}
 use Rattle.ocm_world.specs.Running.{AreOf}
 use Rattle.ocm_world.proofs.Fronts.{prefix-all, prefix-empty, prefix-whole}
 use Rattle.ocm_world.proofs.drills.drill.Goals as goal
@@ -46,4 +46,4 @@ returns-in_err-write_all-clause-err g c =
     rw p.1 (inr (DrillsPart-cut c.args.number c.args.events ran.0 ran.1 c.in_ok-summary.summary _ _ ran.2 ran.4 (rw c.as_slice.ensures at c.in_err-write_all.ensures.err)))
 
 pub summarise-requires-clause-none : goal.summarise-requires-clause-none
-summarise-requires-clause-none g c = subst (λ (nodes : List Node). AreOf nodes []) (sym c.new-servers.ensures) tt
+summarise-requires-clause-none g c = subst (λ (nodes : List RunningServer). AreOf nodes []) (sym c.new-servers.ensures) tt

@@ -2,7 +2,7 @@ use Rattle.std.proofs.Common.{List, [], sym, subst}
 use Rattle.std.proofs.lemmas.Result.{err_from_is_err_and}
 use Rattle.ocm_script_run.proofs.Properly.{proper-lines}
 use Rattle.ocm_script_run.proofs.Scripts.{WritesPart-whole}
-use Rattle.ocm_world.specs.declared.nodes.Node.{Node}
+use Rattle.ocm_world.specs.declared.nodes.RunningServer.{RunningServer}
 use Rattle.ocm_world.specs.Running.{AreOf}
 use Rattle.ocm_world.proofs.Fronts.{prefix-empty, prefix-whole}
 use Rattle.ocm_world.proofs.replays.replay.Goals as goal
@@ -33,4 +33,4 @@ returns-in_err-run_events-clause-shelf_part g c =
     rw p.1 (prefix-empty c.args.events.now c.args.shelf.now c.requires.empty)
 
 pub run_events-requires-clause-none : goal.run_events-requires-clause-none
-run_events-requires-clause-none g c = subst (λ (nodes : List Node). AreOf nodes []) (sym c.new-servers.ensures) tt
+run_events-requires-clause-none g c = subst (λ (nodes : List RunningServer). AreOf nodes []) (sym c.new-servers.ensures) tt

@@ -7,7 +7,7 @@ use Rattle.ocm_world.proofs.Hosts.{image-there}
 use Rattle.ocm_world.proofs.Logging.{TracesPart-cut}
 use Rattle.ocm_world.proofs.Tracing.{logged-traced, traced-run}
 use Rattle.ocm_script_run.proofs.Properly.{proper-lines}
-use Rattle.ocm_world.specs.declared.nodes.Node.{Node}
+use Rattle.ocm_world.specs.declared.nodes.RunningServer.{RunningServer}
 use Rattle.ocm_world.specs.Running.{AreOf}
 use Rattle.ocm_world.proofs.traces.trace.Goals as goal
 
@@ -76,4 +76,4 @@ returns-in_err-write_input-clause-err g c =
     ))
 
 pub log_events-requires-clause-none : goal.log_events-requires-clause-none
-log_events-requires-clause-none g c = subst (λ (nodes : List Node). AreOf nodes []) (sym c.new-servers.ensures) tt
+log_events-requires-clause-none g c = subst (λ (nodes : List RunningServer). AreOf nodes []) (sym c.new-servers.ensures) tt

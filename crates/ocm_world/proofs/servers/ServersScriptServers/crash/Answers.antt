@@ -2,7 +2,7 @@ use Rattle.std.proofs.Common.{◌≡◌, List, get_or, set, sym, ap, ◌∙◌, 
 use Rattle.std.specs.Prelude.{option_map}
 use Rattle.std.specs.List.{insert, remove}
 use Rattle.ocm_rules.specs.Lean.{count}
-use Rattle.ocm_world.specs.declared.nodes.Node.{Node}
+use Rattle.ocm_world.specs.declared.nodes.RunningServer.{RunningServer}
 use Rattle.ocm_world.specs.Running.{AreOf, IsOf}
 use Rattle.ocm_script_run.specs.Servers.{Server, history, restart, step_at}
 use Rattle.ocm_script_run.proofs.Worlds.{kept-found}
@@ -13,8 +13,8 @@ pub restart-requires : goal.restart-requires
 restart-requires c =
     let here = found_at c.args.host.now c.args.self.now c.requires.0 c.in-Some.place c.remove.result c.requires.1 (sym c.in-Some.ensures) in
     let place : c.remove.result ≡ get_or c.args.self.now c.in-Some.place c.remove.result =
-    c.remove.ensures.value ∙ ap (λ (l : List Node). get_or l c.in-Some.place c.remove.result) c.self.view_is in
-    (here.server, subst (λ (n : Node). IsOf n here.server) (sym place) here.of)
+    c.remove.ensures.value ∙ ap (λ (l : List RunningServer). get_or l c.in-Some.place c.remove.result) c.self.view_is in
+    (here.server, subst (λ (n : RunningServer). IsOf n here.server) (sym place) here.of)
 
 pub returns-in_default : goal.returns-in_default
 returns-in_default c = λ world are. (
@@ -26,12 +26,12 @@ pub returns : goal.returns
 returns c = λ world are.
     let here = found_at c.args.host.now c.args.self.now world c.in-Some.place c.remove.result are (sym c.in-Some.ensures) in
     let place : c.remove.result ≡ get_or c.args.self.now c.in-Some.place c.remove.result =
-    c.remove.ensures.value ∙ ap (λ (l : List Node). get_or l c.in-Some.place c.remove.result) c.self.view_is in
-    let kept = c.in_ok-node.ensures here.server (subst (λ (n : Node). IsOf n here.server) (sym place) here.of) in
+    c.remove.ensures.value ∙ ap (λ (l : List RunningServer). get_or l c.in-Some.place c.remove.result) c.self.view_is in
+    let kept = c.in_ok-node.ensures here.server (subst (λ (n : RunningServer). IsOf n here.server) (sym place) here.of) in
     let within = found-within c.args.host.now c.args.self.now c.in-Some.place c.remove.result (sym c.in-Some.ensures) in
-    let out : c.remove.new.self.items ≡ remove c.args.self.now c.in-Some.place = c.remove.ensures.items ∙ ap (λ (l : List Node). remove l c.in-Some.place) c.self.view_is in
+    let out : c.remove.new.self.items ≡ remove c.args.self.now c.in-Some.place = c.remove.ensures.items ∙ ap (λ (l : List RunningServer). remove l c.in-Some.place) c.self.view_is in
     let items : c.insert.new.self.items ≡ set c.args.self.now c.in-Some.place c.in_ok-node.node =
-    c.in_ok-insert.ensures.items ∙ ap (λ (l : List Node). insert l c.in-Some.place c.in_ok-node.node) out ∙ put_again c.args.self.now c.in-Some.place c.in_ok-node.node within in (
+    c.in_ok-insert.ensures.items ∙ ap (λ (l : List RunningServer). insert l c.in-Some.place c.in_ok-node.node) out ∙ put_again c.args.self.now c.in-Some.place c.in_ok-node.node within in (
       kept-found c.args.left world c.args.host.now here.server c.kept-count.result (c.kept-count.ensures (restart c.args.left here.server) kept) here.there,
-      subst (λ (l : List Node). AreOf l (step_at (restart c.args.left) world c.args.host.now)) (sym items) (here.stepped c.in_ok-node.node (restart c.args.left) kept),
+      subst (λ (l : List RunningServer). AreOf l (step_at (restart c.args.left) world c.args.host.now)) (sym items) (here.stepped c.in_ok-node.node (restart c.args.left) kept),
     )

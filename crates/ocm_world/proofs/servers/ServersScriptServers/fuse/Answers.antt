@@ -1,5 +1,5 @@
 use Rattle.std.proofs.Common.{◌≡◌, List, get_or, sym, ap, ◌∙◌, subst, Some}
-use Rattle.ocm_world.specs.declared.nodes.Node.{Node}
+use Rattle.ocm_world.specs.declared.nodes.RunningServer.{RunningServer}
 use Rattle.ocm_world.specs.Running.{IsOf}
 use Rattle.ocm_script_run.specs.Servers.{Server}
 use Rattle.ocm_world.proofs.Worlds.{AreOf-nowhere, found_at}
@@ -14,5 +14,5 @@ returns c =
     (λ world are.
     let here = found_at c.args.host.now c.args.self.now world c.in-Some.place c.index_mut.result.now are (sym c.in-Some.ensures) in
     let place : c.index_mut.result.now ≡ get_or c.args.self.now c.in-Some.place c.index_mut.result.now =
-    c.index_mut.ensures.value ∙ ap (λ (l : List Node). get_or l c.in-Some.place c.index_mut.result.now) c.self.view_is in
-    here.stepped c.fuse.new.self (λ (s : Server). record s { fuse = (Some c.args.calls) }) (c.fuse.ensures here.server (subst (λ (n : Node). IsOf n here.server) (sym place) here.of)))
+    c.index_mut.ensures.value ∙ ap (λ (l : List RunningServer). get_or l c.in-Some.place c.index_mut.result.now) c.self.view_is in
+    here.stepped c.fuse.new.self (λ (s : Server). record s { fuse = (Some c.args.calls) }) (c.fuse.ensures here.server (subst (λ (n : RunningServer). IsOf n here.server) (sym place) here.of)))

@@ -1,6 +1,0 @@
-use Rattle.ocm_turn.specs.Calls.{entry}
-use Rattle.ocm_turn.proofs.board.Board.take_turn.Given as goal
-
--- the entry is that of this call
-abbrev pub ghosts-finish : goal.ghosts-finish
-ghosts-finish g a = record { told = entry a.ask.now.value a.reply.now }

@@ -1,0 +1,4 @@
+use Rattle.ocm_world.proofs.nodes.RunningServerScriptServer.host.Goals as goal
+
+pub returns : goal.returns
+returns c = λ server is. is.host
