@@ -85,7 +85,7 @@ pub record IsBack (line : LogLine) : Type 0 where
   pub lacks : Lacks 10 text
   pub back : line_of text ≡ Some line
 
-ask-back : (place moment status : ℕ) (ask : Ask) → IsLoggable (record { place = place; moment = moment; ask = ask; status = status }) → IsBack (record { place = place; moment = moment; ask = ask; status = status })
+pub ask-back : (place moment status : ℕ) (ask : Ask) → IsLoggable (record { place = place; moment = moment; ask = ask; status = status }) → IsBack (record { place = place; moment = moment; ask = ask; status = status })
 ask-back place moment status (Dav secret method path []) sound =
     let reads = and_parts (is_reading method) (is_short path) sound.reads in
     let digits = sound.digits in

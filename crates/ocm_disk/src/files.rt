@@ -32,6 +32,8 @@ pub struct FileDisk {
     len: u64,
     /// How many bytes the file has at least: those of the disk, and zeros. No zeros are laid before it.
     laid: u64,
+    /// Whether zeros are laid behind what is written: until the system refuses some, as a full file system does.
+    lays: bool,
     faults: u64,
 }
 
@@ -41,6 +43,7 @@ impl Drop for FileDisk {
             file: _,
             len: _,
             laid: _,
+            lays: _,
             faults: _,
         } = self;
     }
@@ -65,26 +68,37 @@ impl FileDisk {
             file,
             len,
             laid: len,
+            lays: true,
             faults: 0,
         })
     }
 
     /// Writes zeros behind a place at which a write is about to end, where it lengthens the file. Where the system
-    /// refuses, that write lengthens the file by itself.
+    /// refuses, that write and those that follow lengthen the file by themselves.
     fn lay_ahead(&mut self, end: u64)
         requires { end ≤ 2 ^ 40 }
         ensures len { self.new.len ≡ self.old.len }
         ensures faults { self.new.faults ≡ self.old.faults }
     {
-        if end <= self.laid || self.len < AHEAD_FROM {
+        if !self.lays || end <= self.laid || self.len < AHEAD_FROM {
             return;
         }
         for piece in 0..PIECES_AHEAD {
             if self.file.write_all_at(PIECE, end + piece * 16_384).is_err() {
-                return;
+                return self.stop_laying();
             }
         }
         self.laid = end + PIECES_AHEAD * 16_384;
+    }
+
+    /// Takes zeros back of which only a part could be laid, so that what is written has their room, and lays none until
+    /// the disk is opened again. Where the system refuses that too they stay, and belong to the file.
+    fn stop_laying(&mut self)
+        ensures len { self.new.len ≡ self.old.len }
+        ensures faults { self.new.faults ≡ self.old.faults }
+    {
+        self.lays = false;
+        let _taken = self.file.set_len(self.laid);
     }
 
     /// Counts a fault where the system told one.
