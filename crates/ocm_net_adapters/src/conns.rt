@@ -4,7 +4,7 @@ ghost use Rattle.ocm_server_connections.specs.Sides.{Sides};
 
 use ocm_base::{Failed, Joined, Sink, Source};
 use ocm_http::{Fixed, FrameFault, Message, Reader, write_fixed};
-use ocm_net_lines::Line;
+use ocm_net_lines::ClientLine;
 use ocm_server_connections::Conn;
 use std::time;
 
