@@ -10,7 +10,7 @@ use Rattle.ocm_law_served.proofs.Answering.{answered-so, session-before}
 use Rattle.ocm_law_sessions.specs.Sessions.{IsSession}
 use Rattle.ocm_law_sessions.proofs.Replying.{session-legal}
 use Rattle.ocm_law_world.specs.World.{IsReached, Session, World}
-use Rattle.ocm_law_openings.specs.Openings.{Follow, Period, was_taken_in}
+use Rattle.ocm_law_openings.specs.Openings.{Follow, GoOn, Period, was_taken_in}
 use Rattle.ocm_law_openings.specs.Keeping.{Keeps, until}
 use Rattle.ocm_law_openings.specs.Worlds.{IsLife}
 use Rattle.ocm_law_openings.proofs.OneHistory.{one_history}
@@ -76,3 +76,15 @@ keeps-life host s (p ∷ older) life = (p, older, life, keeps host p older life.
 
 pub keeps-reached : (w : World) (host : List ℕ) (s : Session) → IsReached w → w.session host ≡ Some s → (p : Period) × (older : List Period) × IsLife host s (p ∷ older) × Keeps host p older
 keeps-reached w host s reached there = let life = lives-reached w reached host s there in keeps-life host s life.0 life.1
+
+-- a life that went on, with what is promised of it
+pub record KeptOn (host : List ℕ) (s : Session) (ps : List Period) : Type 0 where
+  pub p : Period
+  pub older : List Period
+  pub life : IsLife host s (p ∷ older)
+  pub on : GoOn ps (p ∷ older)
+  pub keeps : Keeps host p older
+
+pub keeps-on : (host : List ℕ) (s : Session) (ps qs : List Period) → IsLife host s qs → GoOn ps qs → KeptOn host s ps
+keeps-on host s ps [] life on = absurd life.last
+keeps-on host s ps (p ∷ older) life on = record { p = p; older = older; life = life; on = on; keeps = keeps host p older life.follow }

@@ -15,7 +15,7 @@ use Rattle.ocm_law_world.proofs.Steps.{alone-reached}
 use Rattle.std.specs.Prelude.{option_map}
 use Rattle.ocm_law_openings.specs.Openings.{GoOn, Period}
 use Rattle.ocm_law_openings.specs.Worlds.{IsLife}
-use Rattle.ocm_law_openings.proofs.Promises.{keeps-life}
+use Rattle.ocm_law_openings.proofs.Promises.{keeps-life, keeps-on}
 use Rattle.ocm_law_openings.proofs.Lives.{LivesOn, lives-along, lives-reached, repeat-along}
 use Rattle.ocm_script.specs.declared.events.Event.{Event}
 use Rattle.ocm_script.specs.declared.events.Event.TheVariants.{Raw}
@@ -23,7 +23,7 @@ use Rattle.ocm_script_run.specs.Servers.{Server, area, history, server_at}
 use Rattle.ocm_script_run.specs.Deliveries as lines
 use Rattle.ocm_script_run.specs.Talks.{IsTalk, config_of}
 use Rattle.ocm_script_run.specs.Transcript.{IsRun, Talked, Transcript}
-use Rattle.ocm_law_runs.specs.Promises.{AtLine, Between, ConnectionsAreServed, EndsLast, LinesAreServed, PrintsServed, Promised, ServersKeep, TalksServed}
+use Rattle.ocm_law_runs.specs.Promises.{AtLine, Between, ConnectionsAreServed, EndsLast, LinesAreServed, PrintsServed, Promised, ServersKeep, ServersLast, TalksServed}
 use Rattle.ocm_law_runs.specs.Standing.{IsEnded, IsRefused, RefusesRequests, Stands, UsesSecret, session_of}
 use Rattle.ocm_law_runs.proofs.Cutting.{at-line, cut, told-line}
 use Rattle.ocm_law_runs.proofs.Finding.{Keeps, has-host, stepped-here}
@@ -73,6 +73,17 @@ servers-keep : (events : List Event) (text : List ℕ) (final : List Server) →
 servers-keep events text final transcript host server there =
     let life = life-of events text final host server transcript there in
     keeps-life host (session_of server) life.0 life.1
+
+servers-last : (events : List Event) (text : List ℕ) (final : List Server) → Transcript [] 1 events text final → ServersLast events text final
+servers-last events text final transcript before after same =
+    let P : List Event → Type 0 = λ l. Transcript [] 1 l text final in
+    let place = cut before after text [] final 1 (subst P same transcript) in (
+      place,
+      λ host server ps there life.
+          let on = life-on before after place.front place.rest place.servers final (1 + length before) host server ps place.leads place.goes_on there life in
+          let gone = keeps-on host (session_of on.later) ps on.life on.is on.on in
+          (on.later, on.there, gone.p, gone.older, gone.life, gone.on, gone.keeps),
+    )
 
 prints-served : (before : List Event) (front : List ℕ) (servers : List Server) (number : ℕ) (e : Event) (line : lines.Run) (host secret : List ℕ) (request : FileRequest)
     → Transcript [] 1 before front servers → IsRun servers number e line → host_of e ≡ Some host → ask_of e ≡ Some (ask_with secret request) → PrintsServed servers number e line host secret request
@@ -131,6 +142,7 @@ ends-last events text final transcript before after same =
 pub promised : (events : List Event) (text : List ℕ) (final : List Server) → Transcript [] 1 events text final → Promised events text final
 promised events text final transcript = record {
   servers = servers-keep events text final transcript;
+  lasts = servers-last events text final transcript;
   lines = lines-served events text final transcript;
   connections = connections-served events text final transcript;
   guests = λ host server n offer there taken confirmed. confirmed-made events text final host server n offer transcript there taken confirmed;

@@ -19,7 +19,7 @@ use Rattle.ocm_script_run.specs.Talks.{IsTalk, config_of}
 use Rattle.ocm_script_run.specs.Transcript.{IsRun, Transcript}
 use Rattle.ocm_law_served.specs.Requests.{FileRequest, ask_with}
 use Rattle.ocm_law_served.specs.Served.{IsAnsweredSo}
-use Rattle.ocm_law_openings.specs.Openings.{Period}
+use Rattle.ocm_law_openings.specs.Openings.{GoOn, Period}
 use Rattle.ocm_law_openings.specs.Keeping.{Keeps}
 use Rattle.ocm_law_openings.specs.Worlds.{IsLife}
 use Rattle.ocm_law_runs.specs.Standing.{IsEnded, IsMade, IsRefused, RefusesRequests, UsesSecret, kept_at, session_of}
@@ -39,6 +39,14 @@ pub record Between (first : List Server) (number : ℕ) (before after : List Eve
   pub leads : Transcript first number before front servers
   pub goes_on : Transcript servers (number + length before) after rest final
   pub split : text ≡ front ++ rest
+
+-- What a server had gone through before some lines has gone on behind them, whatever crashed there: all its calls and those
+-- before stand where they stood.
+abbrev pub ServersLast : List Event → List ℕ → List Server → Type 0
+ServersLast events text final =
+    (before after : List Event) → events ≡ before ++ after
+    → (place : Between [] 1 before after text final) × ((host : List ℕ) (server : Server) (ps : List Period) → server_at place.servers host ≡ Some server → IsLife host (session_of server) ps
+    → (later : Server) × (server_at final host ≡ Some later) × (p : Period) × (older : List Period) × IsLife host (session_of later) (p ∷ older) × GoOn ps (p ∷ older) × Keeps host p older)
 
 -- a line at its place
 pub record AtLine (first : List Server) (number : ℕ) (before : List Event) (e : Event) (after : List Event) (text : List ℕ) (final : List Server) : Type 0 where
@@ -105,6 +113,8 @@ pub record Promised (events : List Event) (text : List ℕ) (final : List Server
   -- each server has one legal history that outlives every crash, serves requests for files exactly where every link of the
   -- secret is open and grants them, and takes repeats once
   pub servers : ServersKeep final
+  -- what they went through goes on from line to line
+  pub lasts : ServersLast events text final
   pub lines : LinesAreServed events text final
   pub connections : ConnectionsAreServed events text final
   pub guests : GuestsKeep final
