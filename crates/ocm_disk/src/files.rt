@@ -83,12 +83,23 @@ impl FileDisk {
         if !self.lays || end <= self.laid || self.len < AHEAD_FROM {
             return;
         }
+        if self.lay_zeros(end) {
+            self.laid = end + PIECES_AHEAD * 16_384;
+        } else {
+            self.stop_laying();
+        }
+    }
+
+    /// Writes zeros behind this place. False where the system refused some.
+    fn lay_zeros(&self, end: u64) -> bool
+        requires { end ≤ 2 ^ 40 }
+    {
         for piece in 0..PIECES_AHEAD {
             if self.file.write_all_at(PIECE, end + piece * 16_384).is_err() {
-                return self.stop_laying();
+                return false;
             }
         }
-        self.laid = end + PIECES_AHEAD * 16_384;
+        true
     }
 
     /// Takes zeros back of which only a part could be laid, so that what is written has their room, and lays none until
