@@ -2,7 +2,7 @@
 ghost use Rattle.std.specs.Prelude.{◌<◌};
 
 use ocm_base::{Bytes, List, MemSource, NoMemory, PureSource, Source, Text};
-use ocm_cases_rows::{stream_of, unescaped};
+use ocm_cases_rows::bytes_of;
 use ocm_http::{Field, FrameFault, Head, Kind, Message, Reader};
 use std::alloc::Global;
 
@@ -42,20 +42,20 @@ fn told<S: Source>(reader: &mut Reader, source: &mut S) -> Told {
 }
 
 /// A source of a stream in pieces of this size.
-fn source_of(alloc: Global, stream: &str, piece: usize) -> Option<PureSource>
+fn source_of(stream: &Bytes, piece: usize) -> Option<PureSource>
     requires { 0 < piece }
 {
-    match Bytes::of(alloc, stream.as_bytes()) {
+    match stream.copy() {
         Ok(bytes) => Some(PureSource::new(bytes, piece)),
         Err(_) => None,
     }
 }
 
 /// What requests with bodies of at most 1 MiB tell, or replies with bodies of at most 5 bytes.
-fn told_in(alloc: Global, kind: Kind, stream: &str, piece: usize) -> Option<Told>
+fn told_in(alloc: Global, kind: Kind, stream: &Bytes, piece: usize) -> Option<Told>
     requires { 0 < piece }
 {
-    match source_of(alloc, stream, piece) {
+    match source_of(stream, piece) {
         Some(source) => told_of(reader_of(alloc, kind), source),
         None => None,
     }
@@ -87,10 +87,10 @@ fn told_by(reader: Result<Reader, NoMemory>, source: &mut PureSource) -> Option<
 
 /// What a stream tells, which is the same in pieces of 1, of 7 and of 4,096 bytes.
 fn stream_told(alloc: Global, kind: Kind, row: &str) -> Option<String> {
-    let stream = stream_of(alloc, row)?;
-    let one = told_in(alloc, kind, stream.as_str(), 1);
-    let few = told_in(alloc, kind, stream.as_str(), 7);
-    let many = told_in(alloc, kind, stream.as_str(), 4096);
+    let stream = bytes_of(alloc, row)?;
+    let one = told_in(alloc, kind, &stream, 1);
+    let few = told_in(alloc, kind, &stream, 7);
+    let many = told_in(alloc, kind, &stream, 4096);
     drop(stream);
     if one != few || one != many {
         return String::from_str(alloc, "not the same in all pieces").ok();
@@ -113,8 +113,8 @@ pub fn requests_told(alloc: Global, row: &str) -> Option<String> {
 
 /// What a long stream of requests tells, in pieces of 1,000 bytes.
 pub fn long_told(alloc: Global, row: &str) -> Option<String> {
-    let stream = stream_of(alloc, row)?;
-    let told = told_in(alloc, Kind::Requests, stream.as_str(), 1000);
+    let stream = bytes_of(alloc, row)?;
+    let told = told_in(alloc, Kind::Requests, &stream, 1000);
     drop(stream);
     told_text(alloc, told?)
 }
@@ -178,10 +178,10 @@ fn add_body(text: &mut String, body: &Bytes) -> Option<()> {
 
 /// The requests of a stream in pieces of 5 bytes, and how many bytes are held behind them. Bodies have at most 10 bytes.
 pub fn each_told(alloc: Global, row: &str) -> Option<String> {
-    let stream = unescaped(alloc, row)?;
-    let source = source_of(alloc, stream.as_str(), 5);
-    drop(stream);
-    each_of(alloc, source?)
+    match bytes_of(alloc, row) {
+        Some(bytes) => each_of(alloc, PureSource::new(bytes, 5)),
+        None => None,
+    }
 }
 
 fn each_of(alloc: Global, mut source: PureSource) -> Option<String> {
@@ -230,11 +230,8 @@ fn add_whole(alloc: Global, text: &mut String, message: Message) {
 /// The fault of a source that gives a byte a call and fails at its third call, whether the reader has failed, and how
 /// many bytes it holds.
 pub fn failing_told(alloc: Global, row: &str) -> Option<String> {
-    let stream = unescaped(alloc, row)?;
-    let bytes = Bytes::of(alloc, stream.as_bytes());
-    drop(stream);
-    match third_call(alloc) {
-        Some(fails) => failing_of(alloc, bytes, fails),
+    match bytes_of(alloc, row).zip(third_call(alloc)) {
+        Some((bytes, fails)) => fault_of(alloc, MemSource::new(bytes, 1, fails)),
         None => None,
     }
 }
@@ -243,13 +240,6 @@ fn third_call(alloc: Global) -> Option<List<u64>> {
     let mut fails = List::new(alloc);
     match fails.push(3) {
         Ok(()) => Some(fails),
-        Err(_) => None,
-    }
-}
-
-fn failing_of(alloc: Global, bytes: Result<Bytes, NoMemory>, fails: List<u64>) -> Option<String> {
-    match bytes {
-        Ok(bytes) => fault_of(alloc, MemSource::new(bytes, 1, fails)),
         Err(_) => None,
     }
 }

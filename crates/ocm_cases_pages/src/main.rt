@@ -9,27 +9,13 @@ mod requests;
 
 use crate::pages::{fault_told, file_told, one_page_told, reply_told, shape_told};
 use crate::requests::wanted_told;
+use ocm_cases_rows::{line_of, tell_lines};
 use std::alloc::Global;
 use std::io;
 
 fn main(rt: HostRuntime) -> io::Result<()> {
     let alloc = rt.alloc();
-    for line in rt.lines(alloc) {
-        let told = row_told(alloc, line?)?;
-        let printed = println!(rt; "{told}");
-        drop(told);
-        printed?;
-    }
-    Ok(())
-}
-
-fn row_told(alloc: Global, line: String) -> io::Result<String> {
-    let told = line_told(alloc, line.as_str());
-    drop(line);
-    match told {
-        Some(told) => Ok(told),
-        None => Err(io::Error::from(io::ErrorKind::InvalidInput)),
-    }
+    tell_lines(&rt, alloc, |line| line_of(line_told(alloc, line)))
 }
 
 /// What a case comes to. None where the line is no case, or where memory was wanting.

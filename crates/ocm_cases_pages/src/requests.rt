@@ -1,8 +1,8 @@
 //! What requests want.
 use crate::asks::ask_told;
 use crate::pages::page_told;
-use ocm_base::{Bytes, PureSource};
-use ocm_cases_rows::stream_of;
+use ocm_base::PureSource;
+use ocm_cases_rows::bytes_of;
 use ocm_dav::{Config, Wanted, ask_of};
 use ocm_dav_pages::Shape;
 use ocm_entry::Ask;
@@ -44,12 +44,9 @@ fn config_of(alloc: Global, host: Host) -> Option<Config> {
 }
 
 fn message_of(alloc: Global, row: &str) -> Option<Message> {
-    let stream = stream_of(alloc, row)?;
-    let bytes = Bytes::of(alloc, stream.as_bytes());
-    drop(stream);
-    match bytes {
-        Ok(bytes) => message_in(alloc, PureSource::new(bytes, 4096)),
-        Err(_) => None,
+    match bytes_of(alloc, row) {
+        Some(bytes) => message_in(alloc, PureSource::new(bytes, 4096)),
+        None => None,
     }
 }
 

@@ -1,41 +1,19 @@
-//! How the rows of cases write bytes that are no line: the programs whose names end in `_cases` read their standard input
-//! so, a case a line.
+//! How rows of cases are read, and how what they tell is written: the programs whose names begin with `ocm_cases_` read
+//! their standard input so, a case a line. `None` is a row that is no case, or want of memory.
 #![tactic(auto)]
 
-use std::alloc::Global;
+mod disks;
+mod lines;
+mod numbers;
+mod replies;
+mod steps;
+mod streams;
+mod texts;
 
-/// The text of a row, where `\r` and `\n` stand for CR and LF. `FRONT|TIMES|MANY|BACK` stands for the front, so many
-/// times the text behind the number, and the back.
-pub fn stream_of(alloc: Global, row: &str) -> Option<String> {
-    let whole = repeated(alloc, row)?;
-    unescaped(alloc, whole.as_str())
-}
-
-fn repeated(alloc: Global, row: &str) -> Option<String> {
-    match row.split_once('|') {
-        Some((front, rest)) => {
-            let (times, rest) = rest.split_once('|')?;
-            let (many, back) = rest.split_once('|')?;
-            joined(alloc, front, times.parse().ok()?, many, back)
-        }
-        None => String::from_str(alloc, row).ok(),
-    }
-}
-
-fn joined(alloc: Global, front: &str, times: usize, many: &str, back: &str) -> Option<String> {
-    let many = many.repeat(alloc, times).ok()?;
-    format!(in alloc; "{front}{}{back}", many.as_str()).ok()
-}
-
-/// The text with CR and LF for `\r` and `\n`.
-pub fn unescaped(alloc: Global, text: &str) -> Option<String> {
-    let with_returns = text.replace(alloc, "\\r", "\r").ok()?;
-    with_returns.as_str().replace(alloc, "\\n", "\n").ok()
-}
-
-/// The text of bytes, with `\r` and `\n` for CR and LF.
-pub fn escaped(alloc: Global, bytes: &[u8]) -> Option<String> {
-    let text = str::from_utf8(bytes).ok()?;
-    let without_returns = text.replace(alloc, "\r", "\\r").ok()?;
-    without_returns.as_str().replace(alloc, "\n", "\\n").ok()
-}
+pub use disks::{add_bytes, crash_of, digits_told, limit_of};
+pub use lines::tell_lines;
+pub use numbers::{clock_of, only};
+pub use replies::add_reply;
+pub use steps::{Steps, steps_told};
+pub use streams::{bytes_of, escaped, named_told, stream_of, unescaped};
+pub use texts::{add, cut, line_of};

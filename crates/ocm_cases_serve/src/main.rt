@@ -34,16 +34,29 @@
 //! the clocks of workers give 0.
 #![tactic(auto)]
 
+mod backs;
+mod conns;
+mod disks;
+mod doors;
+mod ends;
+mod faults;
+mod gates;
+mod manners;
+mod names;
+mod pages;
+mod plans;
 mod runs;
 mod series;
 mod stores;
 mod talks;
 mod workers;
 
+use crate::faults::faults_told;
+use crate::gates::Gates;
+use crate::names::{add_name, spelled};
 use crate::runs::run_told;
-use crate::series::series_told;
 use crate::talks::{rest_told, talk_told};
-use ocm_cases_serve_rows::{Gates, add_name, cut, line_of, spelled};
+use ocm_cases_rows::{cut, line_of, tell_lines};
 use std::alloc::Global;
 use std::io;
 use std::sync::Wait;
@@ -52,27 +65,7 @@ use std::thread::Threads;
 fn main(rt: HostRuntime) -> io::Result<()> {
     let alloc = rt.alloc();
     let mut names = String::new(alloc);
-    for line in rt.lines(alloc) {
-        let told = row_told(&rt, alloc, &mut names, line?)?;
-        let printed = print!(rt; "{told}");
-        drop(told);
-        printed?;
-    }
-    Ok(())
-}
-
-fn row_told<R: Threads + Wait + Sync>(
-    rt: &R,
-    alloc: Global,
-    names: &mut String,
-    line: String,
-) -> io::Result<String> {
-    let told = line_told(rt, alloc, names, line.as_str());
-    drop(line);
-    match told {
-        Some(told) => Ok(told),
-        None => Err(io::Error::from(io::ErrorKind::InvalidInput)),
-    }
+    tell_lines(&rt, alloc, |line| line_told(&rt, alloc, &mut names, line))
 }
 
 /// What a line comes to. None where it is none, or where memory was wanting.
@@ -95,7 +88,7 @@ fn case_told<R: Threads + Wait + Sync>(rt: &R, alloc: Global, line: &str) -> Opt
     let gates = Gates::new(alloc)?;
     let (kind, row) = cut(line, " ");
     let told = match kind {
-        "each" => series_told(rt, alloc, &gates, row),
+        "each" => faults_told(rt, alloc, &gates, row),
         "talk" => line_of(talk_told(rt, alloc, &gates, row)),
         "rest" => line_of(rest_told(rt, alloc, &gates, row)),
         _ => line_of(run_told(rt, alloc, &gates, line)),

@@ -1,9 +1,14 @@
 //! Runs of a server from its disk to its disk.
 ghost use Rattle.std.specs.Prelude.{◌<◌, length};
 
+use crate::backs::served_told;
+use crate::disks::disk_of;
+use crate::gates::Gates;
+use crate::manners::Manner;
+use crate::plans::plan_of;
 use crate::stores::kept_told;
 use crate::workers::{Hand, add_worked, add_workers};
-use ocm_cases_serve_rows::{Gates, Manner, add, cut, disk_of, plan_of, served_told};
+use ocm_cases_rows::{add, cut};
 use ocm_disk::GateDisk;
 use ocm_serve_options::Plan;
 use ocm_serve_store::serve;

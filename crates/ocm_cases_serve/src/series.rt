@@ -1,48 +1,63 @@
-//! Runs in which each call fails in turn.
-use crate::runs::planned_told;
-use ocm_cases_serve_rows::{Gates, Manner, Series, cut, plan_of};
-use ocm_serve_options::Plan;
+//! Runs that came to the same, told together.
+use ocm_cases_rows::add;
 use std::alloc::Global;
-use std::sync::Wait;
-use std::thread::Threads;
 
-/// What these runs come to, `KIND COUNT; PAGES; WORDS; DISK; WORKER`: a line for those that follow one another and come to the
-/// same.
-pub fn series_told<R: Threads + Wait + Sync>(
-    rt: &R,
-    alloc: Global,
-    gates: &Gates,
-    row: &str,
-) -> Option<String> {
-    let (calls, row) = cut(row, "; ");
-    let (pages, row) = cut(row, "; ");
-    let (words, row) = cut(row, "; ");
-    let plan = plan_of(alloc, words)?;
-    let mut series = Series::new(alloc);
-    let whole = add_runs(rt, alloc, &mut series, &plan, gates, calls, pages, row);
-    drop(plan);
-    let text = series.into_text();
-    whole.and(Some(text))
+/// The runs so far: what was told of those that are over, the number of the first of those that came to the same as the
+/// last, and what that is.
+pub struct Series {
+    text: String,
+    first: u64,
+    told: String,
 }
 
-fn add_runs<R: Threads + Wait + Sync>(
-    rt: &R,
-    alloc: Global,
-    series: &mut Series,
-    plan: &Plan,
-    gates: &Gates,
-    calls: &str,
-    pages: &str,
-    row: &str,
-) -> Option<()> {
-    let (kind, count) = cut(calls, " ");
-    let count: u64 = count.parse().ok()?;
-    for before in 0..count {
-        let manner = Manner::failing_at(kind, before.saturating_add(1));
-        match planned_told(rt, alloc, plan, gates, row, manner, pages) {
-            Some(told) => series.add(alloc, before, told)?,
-            None => return None,
+impl Drop for Series {
+    fn drop(self) {
+        let Series {
+            text: _,
+            first: _,
+            told: _,
+        } = self;
+    }
+}
+
+impl Series {
+    /// No runs.
+    pub fn new(alloc: Global) -> Series {
+        Series {
+            text: String::new(alloc),
+            first: 1,
+            told: String::new(alloc),
         }
     }
-    series.close(alloc, count)
+
+    /// Adds what is told of a run behind so many others.
+    pub fn add(&mut self, alloc: Global, before: u64, told: String) -> Option<()> {
+        if told.as_str() == self.told.as_str() {
+            drop(told);
+            return Some(());
+        }
+        let closed = self.close(alloc, before);
+        self.first = before.saturating_add(1);
+        self.told = told;
+        closed
+    }
+
+    /// Tells the runs that came to the same, of which this is the last number.
+    pub fn close(&mut self, alloc: Global, last: u64) -> Option<()> {
+        if self.told.is_empty() {
+            return Some(());
+        }
+        let line = format!(in alloc; "{} to {last}: {}\n", self.first, self.told.as_str());
+        add(&mut self.text, line.ok())
+    }
+
+    /// What was told.
+    pub fn into_text(self) -> String {
+        let Series {
+            text,
+            first: _,
+            told: _,
+        } = self;
+        text
+    }
 }

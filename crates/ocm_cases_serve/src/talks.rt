@@ -3,11 +3,14 @@ ghost use Rattle.std.specs.Prelude.{List, []};
 ghost use Rattle.ocm_entry.specs.declared.entries.Entry.{Entry};
 ghost use Rattle.ocm_store.specs.Stores.{IsLegalUnder, Stands, terms_of};
 
+use crate::backs::ended_told;
+use crate::conns::{OPEN, conn_of, rest_conn_of};
+use crate::disks::disk_of;
+use crate::gates::Gates;
+use crate::manners::Manner;
 use crate::stores::{host, loaded};
 use ocm_base::MemClock;
-use ocm_cases_serve_rows::{
-    Gates, Manner, OPEN, clock_of, conn_of, cut, disk_of, ended_told, rest_conn_of,
-};
+use ocm_cases_rows::{clock_of, cut};
 use ocm_dav::Config;
 use ocm_disk::{Disk, GateDisk};
 use ocm_server::{Conn, Draw, Ended, serve_conn};

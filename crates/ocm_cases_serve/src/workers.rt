@@ -1,6 +1,10 @@
 //! Workers of rows.
+use crate::backs::add_ends;
+use crate::doors::CaseDoor;
+use crate::ends::ends_of;
+use crate::gates::Gates;
+use crate::manners::Manner;
 use ocm_base::{List, MemClock};
-use ocm_cases_serve_rows::{CaseDoor, Gates, Manner, add_ends, ends_of};
 use ocm_disk::GateDisk;
 use ocm_pump::MemDial;
 use ocm_serve_store::Followed;

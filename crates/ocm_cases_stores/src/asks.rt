@@ -12,6 +12,9 @@ use std::alloc::Global;
 fn digits_of(word: &str) -> &str {
     match word {
         "A" => "aaaaaaaaaaaaaaaaaaaaaaaaaaaaaaaa",
+        "C" => "cccccccccccccccccccccccccccccccc",
+        "E" => "eeeeeeeeeeeeeeeeeeeeeeeeeeeeeeee",
+        "W" => "55555555555555555555555555555555",
         "S1" => "000102030405060708090a0b0c0d0e0f",
         "S2" => "101112131415161718191a1b1c1d1e1f",
         _ => word,
@@ -83,15 +86,15 @@ fn request(alloc: Global, method: Method, row: &str, body: Bytes) -> Option<Ask>
     }
 }
 
-/// PUT of one letter so often, `KEY PATH COUNT LETTER`.
+/// PUT of a text so often, `KEY PATH COUNT TEXT`.
 fn put(alloc: Global, row: &str) -> Option<Ask>
     ensures { IfSome result (λ ask. IsTrue (is_proper ask)) }
 {
-    let (row, letter) = row.rsplit_once(' ')?;
+    let (row, text) = row.rsplit_once(' ')?;
     let (row, count) = row.rsplit_once(' ')?;
-    let text = letter.repeat(alloc, count.parse().ok()?).ok()?;
-    let body = Bytes::of(alloc, text.as_bytes());
-    drop(text);
+    let whole = text.repeat(alloc, count.parse().ok()?).ok()?;
+    let body = Bytes::of(alloc, whole.as_bytes());
+    drop(whole);
     match body {
         Ok(body) => request(alloc, Method::Put, row, body),
         Err(_) => None,

@@ -1,13 +1,11 @@
 //! What is done to a disk while no store is on it.
 ghost use Rattle.std.specs.Prelude.{◌≤◌, ◌^◌, length};
 
-use ocm_base::{List, MemSink, hex_of, hex_read};
+use ocm_base::{List, MemSink, hex_read};
+use ocm_cases_rows::{add_bytes, digits_told};
 use ocm_disk::{Disk, MemDisk};
 use ocm_journal_audit::{AuditFault, audit};
 use std::alloc::Global;
-
-/// The most bytes that a disk may have here.
-const MOST: u64 = 1_000_000;
 
 pub fn disk_told(alloc: Global, disk: &mut MemDisk, kind: &str, row: &str) -> Option<String> {
     match kind {
@@ -24,9 +22,9 @@ pub fn disk_told(alloc: Global, disk: &mut MemDisk, kind: &str, row: &str) -> Op
 fn add_digits(alloc: Global, disk: &mut MemDisk, digits: &str) -> Option<String> {
     match hex_read(alloc, digits) {
         Ok(bytes) => {
-            let told = add(alloc, disk, bytes.as_slice());
+            let added = add_bytes(disk, bytes.as_slice());
             drop(bytes);
-            told
+            added.and(length_told(alloc, disk))
         }
         Err(_) => None,
     }
@@ -41,18 +39,6 @@ fn fill(alloc: Global, disk: &mut MemDisk, row: &str) -> Option<String> {
     told
 }
 
-/// Adds bytes at the end, and tells the length.
-fn add(alloc: Global, disk: &mut MemDisk, bytes: &[u8]) -> Option<String> {
-    let end = disk.len();
-    let more = bytes.len() as u64;
-    if end > MOST || more > MOST {
-        return None;
-    }
-    disk.room(more).ok()?;
-    disk.write_at(end, bytes).ok()?;
-    synced(alloc, disk)
-}
-
 /// Cuts the disk, and tells the length.
 fn cut(alloc: Global, disk: &mut MemDisk, row: &str) -> Option<String> {
     let length = row.parse().ok()?;
@@ -60,10 +46,6 @@ fn cut(alloc: Global, disk: &mut MemDisk, row: &str) -> Option<String> {
         return None;
     }
     disk.cut(length).ok()?;
-    synced(alloc, disk)
-}
-
-fn synced(alloc: Global, disk: &mut MemDisk) -> Option<String> {
     disk.sync().ok()?;
     length_told(alloc, disk)
 }
@@ -75,15 +57,7 @@ fn length_told(alloc: Global, disk: &MemDisk) -> Option<String> {
 /// The digits of the bytes from one place up to another, `FROM TO`.
 fn part_told(alloc: Global, bytes: &[u8], row: &str) -> Option<String> {
     let (from, to) = row.split_once(' ')?;
-    let part = bytes.get(from.parse().ok()?..to.parse().ok()?)?;
-    match hex_of(alloc, part) {
-        Ok(digits) => {
-            let told = String::from_str(alloc, digits.as_str());
-            drop(digits);
-            told.ok()
-        }
-        Err(_) => None,
-    }
+    digits_told(alloc, bytes.get(from.parse().ok()?..to.parse().ok()?)?)
 }
 
 /// What an audit tells, its lines joined by ` / `.

@@ -1,8 +1,8 @@
-//! Where a disk is: off, or loaded.
+//! Stores on disks in memory.
 ghost use Rattle.std.specs.Prelude.{◌≤◌, ◌^◌};
 
-use ocm_base::Bytes;
-use ocm_disk::{Crash, MemDisk};
+use ocm_cases_rows::{crash_of, cut, limit_of, named_told};
+use ocm_disk::MemDisk;
 use ocm_store::{LoadFault, Store};
 use ocm_types::Host;
 use std::alloc::Global;
@@ -30,11 +30,9 @@ pub fn put(place: &mut StorePlace, new: StorePlace) {
 
 /// Loads the disk: how many entries are kept, or why it is refused.
 pub fn load(alloc: Global, place: &mut StorePlace, row: &str) -> Option<String> {
-    let (limit, host) = row.split_once(' ').unwrap_or((row, "a.example"));
-    let limit: u64 = limit.parse().ok()?;
-    if limit < 4096 || limit > 549_755_813_888 {
-        return None;
-    }
+    let (limit, host) = cut(row, " ");
+    let limit = limit_of(limit)?;
+    let host = if host.is_empty() { "a.example" } else { host };
     match Host::read(alloc, host) {
         Ok(host) => load_for(alloc, place, host, limit),
         Err(_) => None,
@@ -66,27 +64,15 @@ fn kept_told(alloc: Global, store: Store<MemDisk>) -> (StorePlace, Option<String
 fn fault_told(alloc: Global, fault: LoadFault) -> Option<String> {
     match fault {
         LoadFault::NotJournal(place) => format!(in alloc; "no journal {place}").ok(),
-        LoadFault::OtherHost(found) => host_told(alloc, found),
+        LoadFault::OtherHost(found) => named_told(alloc, "other host", found),
         LoadFault::DiskFault(count) => format!(in alloc; "disk fault {count}").ok(),
         LoadFault::NoMemory => String::from_str(alloc, "no memory").ok(),
     }
 }
 
-fn host_told(alloc: Global, found: Bytes) -> Option<String> {
-    let host = str::from_utf8(found.as_slice()).unwrap_or("");
-    let told = format!(in alloc; "other host {host}");
-    drop(found);
-    told.ok()
-}
-
 /// Takes the store down with a crash of its disk, and loads that.
 pub fn crash(alloc: Global, place: &mut StorePlace, row: &str) -> Option<String> {
-    let mode = match row {
-        "old" => Crash::Old,
-        "new" => Crash::New,
-        "torn" => Crash::Torn,
-        _ => return None,
-    };
+    let mode = crash_of(row)?;
     let disk = taken(alloc, place).crash(mode);
     put(place, StorePlace::Off(disk));
     load(alloc, place, "4096")

@@ -3,6 +3,7 @@ use crate::asks::ask_of;
 use crate::disks::disk_told;
 use crate::places::{StorePlace, crash, fuse, load, put, taken};
 use crate::replies::reply_told;
+use ocm_cases_rows::{Steps, steps_told};
 use ocm_disk::MemDisk;
 use ocm_entry::Object;
 use ocm_store::Store;
@@ -12,46 +13,25 @@ use std::alloc::Global;
 /// What each step of a case tells. None where a step is none, or where memory was wanting for what it tells.
 pub fn case_told(alloc: Global, case: &str) -> Option<String> {
     let mut place = StorePlace::Off(MemDisk::new(alloc));
-    let mut text = String::new(alloc);
-    let whole = add_each(alloc, &mut place, &mut text, case);
+    let told = steps_told(alloc, &mut place, case);
     drop(place);
-    match whole {
-        Some(()) => Some(text),
-        None => {
-            drop(text);
-            None
+    told
+}
+
+impl Steps for StorePlace {
+    fn step_told(&mut self, alloc: Global, kind: &str, row: &str) -> Option<String> {
+        match kind {
+            "load" => load(alloc, self, row),
+            "crash" => crash(alloc, self, row),
+            "fuse" => fuse(alloc, self, row),
+            "add" | "fill" | "cut" | "length" | "bytes" | "audit" => {
+                disk_step(alloc, self, kind, row)
+            }
+            _ => match self {
+                StorePlace::On(store) => store_told(alloc, store, kind, row),
+                StorePlace::Off(_) => None,
+            },
         }
-    }
-}
-
-fn add_each(alloc: Global, place: &mut StorePlace, text: &mut String, case: &str) -> Option<()> {
-    for step in case.split("; ") {
-        add_step(alloc, place, text, step)?;
-    }
-    Some(())
-}
-
-fn add_step(alloc: Global, place: &mut StorePlace, text: &mut String, step: &str) -> Option<()> {
-    if !text.is_empty() {
-        text.push_str("; ").ok()?;
-    }
-    let told = step_told(alloc, place, step)?;
-    let added = text.push_str(told.as_str());
-    drop(told);
-    added.ok()
-}
-
-fn step_told(alloc: Global, place: &mut StorePlace, step: &str) -> Option<String> {
-    let (kind, row) = step.split_once(' ').unwrap_or((step, ""));
-    match kind {
-        "load" => load(alloc, place, row),
-        "crash" => crash(alloc, place, row),
-        "fuse" => fuse(alloc, place, row),
-        "add" | "fill" | "cut" | "length" | "bytes" | "audit" => disk_step(alloc, place, kind, row),
-        _ => match place {
-            StorePlace::On(store) => store_told(alloc, store, kind, row),
-            StorePlace::Off(_) => None,
-        },
     }
 }
 

@@ -6,6 +6,7 @@ ghost use Rattle.ocm_store.specs.Stores.{IsLegalUnder, Stands, terms_of};
 use crate::asks::ask_of;
 use crate::gates::Gates;
 use crate::replies::reply_told;
+use ocm_cases_rows::{Steps, cut, steps_told};
 use ocm_disk::{Disk, MemDisk};
 use ocm_entry::Reply;
 use ocm_store::Store;
@@ -57,54 +58,37 @@ fn turns_by<R: Wait>(
     }
 }
 
-fn gates_told<R: Wait>(rt: &R, alloc: Global, mut gates: Gates, asks: &str) -> Option<String> {
-    let mut text = String::new(alloc);
-    let whole = add_each(rt, alloc, &mut gates, &mut text, asks);
+fn gates_told<R: Wait>(rt: &R, alloc: Global, gates: Gates, asks: &str) -> Option<String> {
+    let mut turns = Turns { rt, gates };
+    let told = steps_told(alloc, &mut turns, asks);
+    let Turns { rt, gates } = turns;
     let calls = gates.close(rt);
-    let told = match whole {
-        Some(()) => format!(in alloc; "{}{calls} calls", text.as_str()).ok(),
+    calls_told(alloc, told, calls)
+}
+
+fn calls_told(alloc: Global, told: Option<String>, calls: u64) -> Option<String> {
+    match told {
+        Some(told) => format!(in alloc; "{}; {calls} calls", told.as_str()).ok(),
         None => None,
-    };
-    drop(text);
-    told
-}
-
-fn add_each<R: Wait>(
-    rt: &R,
-    alloc: Global,
-    gates: &mut Gates,
-    text: &mut String,
-    asks: &str,
-) -> Option<()> {
-    for ask in asks.split("; ") {
-        add_turn(rt, alloc, gates, text, ask)?;
     }
-    Some(())
 }
 
-fn add_turn<R: Wait>(
-    rt: &R,
-    alloc: Global,
-    gates: &mut Gates,
-    text: &mut String,
-    ask: &str,
-) -> Option<()> {
-    let told = turn_told(rt, alloc, gates, ask)?;
-    let added = text.push_str(told.as_str());
-    drop(told);
-    added.ok()?;
-    text.push_str("; ").ok()
+/// Calls at a turnstile, by a runtime that may wait.
+struct Turns<'a, R> {
+    rt: &'a R,
+    gates: Gates,
 }
 
-fn turn_told<R: Wait>(rt: &R, alloc: Global, gates: &mut Gates, ask: &str) -> Option<String> {
-    let (kind, row) = ask.split_once(' ')?;
-    if kind == "other" {
-        let (kind, row) = row.split_once(' ')?;
+impl<'a, R: Wait> Steps for Turns<'a, R> {
+    fn step_told(&mut self, alloc: Global, kind: &str, row: &str) -> Option<String> {
+        if kind == "other" {
+            let (kind, row) = cut(row, " ");
+            let ask = ask_of(alloc, kind, row)?;
+            return answer_told(alloc, self.gates.call_other(self.rt, ask));
+        }
         let ask = ask_of(alloc, kind, row)?;
-        return answer_told(alloc, gates.call_other(rt, ask));
+        answer_told(alloc, self.gates.call(self.rt, ask))
     }
-    let ask = ask_of(alloc, kind, row)?;
-    answer_told(alloc, gates.call(rt, ask))
 }
 
 fn answer_told(alloc: Global, answer: Result<Reply, Spent>) -> Option<String> {

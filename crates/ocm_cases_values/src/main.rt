@@ -1,45 +1,49 @@
-//! Cases of readers: each line of standard input is one, `KIND TEXT`, and for each a line is
-//! written, the value that is read or the fault.
+//! Cases of readers: of texts, paths, numbers and JSON, and of what a running server takes from the system at its start.
+//! Each line of standard input is one, and for each a line is written: the value that is read, or the fault.
+//!
+//! | line | tells |
+//! |---|---|
+//! | `hex`, `decimal`, `path`, `join`, `parent`, `above`, `copy` and a text | a number, bytes, or a path |
+//! | `address`, `own`, `host`, `ownhost`, `name`, `perms` and a text | a text of the protocol |
+//! | `open`, `openhex`, `text`, `inner`, `copied`, `flag`, `number`, `texts`, `objects` and JSON | an object, or a field of it |
+//! | `plan WORD WORD ..` | what these words order of a server, or `usage` |
+//! | `key HEX` | the administrator's key that a file of these bytes holds, or `none` |
+//! | `clock` | whether the system's clock is past the year 2020, and does not go back |
 #![tactic(auto)]
 
+mod clocks;
 mod json;
+mod keys;
 mod paths;
 mod plain;
+mod plans;
 mod texts;
 
+use crate::clocks::clock_told;
 use crate::json::json_told;
+use crate::keys::key_told;
 use crate::paths::{above_told, copy_told, join_told, parent_told, path_told};
 use crate::plain::{decimal_told, hex_told};
+use crate::plans::plan_told;
 use crate::texts::{
     address_told, host_told, name_told, own_address_told, own_host_told, perms_told,
 };
+use ocm_cases_rows::{cut, line_of, tell_lines};
 use std::alloc::Global;
-use std::io;
+use std::{io, time};
 
 fn main(rt: HostRuntime) -> io::Result<()> {
     let alloc = rt.alloc();
-    for line in rt.lines(alloc) {
-        let told = row_told(alloc, line?)?;
-        let printed = println!(rt; "{told}");
-        drop(told);
-        printed?;
-    }
-    Ok(())
-}
-
-fn row_told(alloc: Global, line: String) -> io::Result<String> {
-    let told = line_told(alloc, line.as_str());
-    drop(line);
-    match told {
-        Some(told) => Ok(told),
-        None => Err(io::Error::from(io::ErrorKind::InvalidInput)),
-    }
+    tell_lines(&rt, alloc, |line| line_of(line_told(&rt, alloc, line)))
 }
 
 /// What a case comes to; nothing where the line is no case, or there was no memory.
-fn line_told(alloc: Global, line: &str) -> Option<String> {
-    let (kind, text) = line.split_once(' ')?;
+fn line_told<R: time::Clock>(rt: &R, alloc: Global, line: &str) -> Option<String> {
+    let (kind, text) = cut(line, " ");
     match kind {
+        "clock" => clock_told(rt, alloc),
+        "plan" => plan_told(alloc, text),
+        "key" => key_told(alloc, text),
         "hex" => hex_told(alloc, text),
         "decimal" => decimal_told(alloc, text),
         _ => any_path_told(alloc, kind, text),

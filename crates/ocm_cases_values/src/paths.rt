@@ -2,17 +2,10 @@ ghost use Rattle.std.specs.Prelude.{◌≤◌, length};
 ghost use Rattle.ocm_limits.specs.Limits.{most_asked_path_bytes};
 ghost use Rattle.ocm_path.specs.Paths.{path_text};
 
+use crate::texts::shown;
 use ocm_base::{NoMemory, Text};
 use ocm_path::Path;
 use std::alloc::Global;
-
-/// A text that was made.
-fn shown(alloc: Global, text: Result<Text, NoMemory>) -> Option<String> {
-    match text {
-        Ok(text) => String::from_str(alloc, text.as_str()).ok(),
-        Err(NoMemory) => None,
-    }
-}
 
 /// The path's text and its escaped text, or the fault.
 pub fn path_told(alloc: Global, text: &str) -> Option<String> {

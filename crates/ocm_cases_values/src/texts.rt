@@ -73,7 +73,8 @@ pub fn perms_told(alloc: Global, text: &str) -> Option<String> {
     }
 }
 
-fn shown(alloc: Global, text: Result<Text, NoMemory>) -> Option<String> {
+/// A text that was made.
+pub fn shown(alloc: Global, text: Result<Text, NoMemory>) -> Option<String> {
     match text {
         Ok(text) => String::from_str(alloc, text.as_str()).ok(),
         Err(NoMemory) => None,
