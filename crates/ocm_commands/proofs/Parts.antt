@@ -83,6 +83,7 @@ plain-gives commands.Replay bytes end text shelf gives = absurd gives
 plain-gives (commands.Trace host) bytes end text shelf gives = absurd gives
 plain-gives commands.Audit bytes end text shelf gives = gives
 plain-gives commands.Logcheck bytes end text shelf gives = gives
+plain-gives commands.Compact bytes end text shelf gives = gives
 plain-gives (commands.Check kind) bytes end text shelf gives = gives
 plain-gives (commands.Drill number events) bytes end text shelf gives = absurd gives
 plain-gives commands.Help bytes end text shelf gives = gives

@@ -16,7 +16,8 @@ use std::alloc::Global;
 /// Runs the command that the words are, and answers the status of the program: 0 where it was done,
 /// 1 where the words are no command, 2 where a line of the script or the log is bad, 3 and 4 where the
 /// source or the sink failed, 5 where there was no memory, 7 where the input is no journal, 8 where it is
-/// no such record, 9 where it is too long, 17 where a line of the log is false.
+/// no such record, 9 where it is too long, 17 where a line of the log is false, 18 where the least form of
+/// a journal does not answer alike.
 pub fn command<S: Source, K: Sink>(
     alloc: Global,
     words: &[String],
@@ -36,7 +37,7 @@ pub fn command<S: Source, K: Sink>(
     ensures part_of_usage { AreOther (texts words.now) → result ≡ 4 → AppendsPart (K.taken sink.old) (K.taken sink.new) usage_line }
     ensures untested { AreOther (texts words.now) → result ≡ 5 → K.taken sink.new ≡ K.taken sink.old }
 
-    // 0, 2, 7, 8 and 17: a command that reads read the source to its end, and what the command writes on its input was added
+    // 0, 2, 7, 8, 17 and 18: a command that reads read the source to its end, and what the command writes on its input was added
     ensures ended { (c : Command) → AreOf c (texts words.now) → reads c ≡ true → IsWhole result
         → IfSome (S.left source.new) (λ rest. rest ≡ []) }
     ensures whole { (c : Command) → AreOf c (texts words.now) → IsWhole result
@@ -124,7 +125,11 @@ fn run_on<K: Sink>(
         Command::Replay => run_script(alloc, bytes.as_slice(), sink, shelf),
         Command::Trace(host) => run_trace(alloc, host, bytes.as_slice(), sink, shelf),
         Command::Drill { number, events } => run_drill(alloc, *number, *events, sink, shelf),
-        Command::Audit | Command::Logcheck | Command::Check(_) | Command::Help | Command::Version =>
-            run_plain(alloc, command, bytes.as_slice(), sink),
+        Command::Audit
+        | Command::Logcheck
+        | Command::Compact
+        | Command::Check(_)
+        | Command::Help
+        | Command::Version => run_plain(alloc, command, bytes.as_slice(), sink),
     }
 }

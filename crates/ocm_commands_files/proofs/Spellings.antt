@@ -9,6 +9,7 @@ lengths : (command : Command) (words : List (List ℕ)) → AreOf command words 
 lengths commands.Replay words is = let e : length words ≡ 1 = ap length is in (omega arith, omega arith)
 lengths commands.Audit words is = let e : length words ≡ 1 = ap length is in (omega arith, omega arith)
 lengths commands.Logcheck words is = let e : length words ≡ 1 = ap length is in (omega arith, omega arith)
+lengths commands.Compact words is = let e : length words ≡ 1 = ap length is in (omega arith, omega arith)
 lengths (commands.Check kind) words is = let e : length words ≡ 2 = ap length is in (omega arith, omega arith)
 lengths commands.Help words (inl is) = let e : length words ≡ 1 = ap length is in (omega arith, omega arith)
 lengths commands.Help words (inr is) = let e : length words ≡ 1 = ap length is in (omega arith, omega arith)

@@ -11,6 +11,7 @@ use Rattle.ocm_commands_files.specs.declared.words.Command.{Command}
 use Rattle.ocm_commands_files.specs.declared.words.Command.TheVariants as commands
 use Rattle.ocm_commands_files.specs.Audits.{AuditsTo}
 use Rattle.ocm_commands_files.specs.Checks.{Checks}
+use Rattle.ocm_commands_files.specs.Compacts.{CompactsTo}
 use Rattle.ocm_commands_files.specs.Logchecks.{LogchecksTo}
 use Rattle.ocm_commands_files.specs.Words.{most_bytes}
 
@@ -29,6 +30,7 @@ IsPlain _ = Unit {0}
 abbrev pub GivesPlain : Command → List ℕ → End → List ℕ → Type 0
 GivesPlain commands.Audit bytes end text = AuditsTo bytes end text
 GivesPlain commands.Logcheck bytes end text = LogchecksTo bytes end text
+GivesPlain commands.Compact bytes end text = CompactsTo bytes end text
 GivesPlain (commands.Check kind) bytes end text = Checks kind bytes end text
 GivesPlain commands.Help bytes end text = (end ≡ whole.Done) × (text ≡ HELP.now)
 GivesPlain commands.Version bytes end text = (end ≡ whole.Done) × (text ≡ VERSION.now)
@@ -57,6 +59,7 @@ end_status whole.Script = 2
 end_status whole.NotJournal = 7
 end_status whole.Record = 8
 end_status whole.False = 17
+end_status whole.Differs = 18
 
 -- the number is the status of a run whose text is whole
 abbrev pub IsWhole : ℕ → Type 0

@@ -6,6 +6,7 @@ ghost use Rattle.ocm_commands_files.specs.Words.{input_of, most_bytes, reads};
 
 use crate::audits::run_audit;
 use crate::checks::check;
+use crate::compacts::run_compact;
 use crate::ends::{End, Fault};
 use crate::help::{HELP, VERSION};
 use crate::lines::write_text;
@@ -74,6 +75,7 @@ pub fn run_plain<K: Sink>(
     match command {
         Command::Audit => run_audit(alloc, bytes, sink),
         Command::Logcheck => run_logcheck(alloc, bytes, sink),
+        Command::Compact => run_compact(alloc, bytes, sink),
         Command::Check(kind) => check(alloc, *kind, bytes, sink),
         Command::Help => write_text(HELP, sink),
         Command::Version => write_text(VERSION, sink),
@@ -91,6 +93,7 @@ pub fn status_of(end: Result<End, Fault>) -> u8
         Ok(End::NotJournal) => 7,
         Ok(End::Record) => 8,
         Ok(End::False) => 17,
+        Ok(End::Differs) => 18,
         Err(Fault::ReadFault) => 3,
         Err(Fault::WriteFault) => 4,
         Err(Fault::NoMemory) => 5,

@@ -13,6 +13,8 @@ pub enum End {
     Record,
     /// A line of the log is false: status 17.
     False,
+    /// The least form of a journal does not answer alike: status 18.
+    Differs,
 }
 
 /// Why a command was not done.

@@ -9,6 +9,7 @@ Usage: ocmd COMMAND ..
   trace HOST             read a script, write HOST's journal and log of reads
   audit                  read a journal's file, write what its records say
   logcheck               read what trace writes, test each line of the log
+  compact                read a journal's file, write it anew in its least form
   check KIND             read a message body, write its one form or its fault
   drill NUMBER EVENTS    run a script made of NUMBER, write its summary
   serve OPTIONS          run a server until it is killed
@@ -30,6 +31,7 @@ Options of serve; host, disk and one of the two for the key have to be there:
   --workers NUMBER       how many threads, 1 to 64; default 4
   --key-file FILE        32 random bytes; default /dev/urandom
   --connections NUMBER   for each worker, 0 for no end; default 0
+  --log FILE             what readers were answered, for logcheck
 
 Exit status:
    0  done                             9  the input is too long
@@ -41,6 +43,7 @@ Exit status:
    6  serve: the disk failed          15  dav: the server refused
    7  the file is no journal          16  dav: no discovery document
    8  the message body has a fault    17  a line of the log is false
+                                      18  compact: the result differs
 ";
 
 /// The version of the program, and of the interface that it speaks.

@@ -1,10 +1,11 @@
-//! The commands of the program `ocmd` that check an input and run no server, `audit`, `check` and `logcheck`, beside
-//! `help` and `version`, over any source and sink; and for all commands their words, their input and their statuses.
+//! The commands of the program `ocmd` that take one input and run no server, `audit`, `check`, `logcheck` and `compact`,
+//! beside `help` and `version`, over any source and sink; and for all commands their words, their input and their statuses.
 #![tactic(auto)]
 
 mod audits;
 mod checks;
 mod commands;
+mod compacts;
 mod ends;
 mod help;
 mod lines;

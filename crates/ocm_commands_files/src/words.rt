@@ -49,6 +49,8 @@ pub enum Command {
     Audit,
     /// `logcheck`: tests a log of reads against the journal of the server that answered them.
     Logcheck,
+    /// `compact`: writes a journal's file anew in its least form.
+    Compact,
     /// `check KIND`: reads a record and writes it in its one form.
     Check(Kind),
     /// `drill NUMBER EVENTS`: runs a script that is made of a number.
@@ -70,6 +72,7 @@ impl Drop for Command {
             Command::Trace(_) => {}
             Command::Audit => {}
             Command::Logcheck => {}
+            Command::Compact => {}
             Command::Check(_) => {}
             Command::Drill {
                 number: _,
@@ -109,6 +112,7 @@ impl Command {
             "replay" => Some(Command::Replay),
             "audit" => Some(Command::Audit),
             "logcheck" => Some(Command::Logcheck),
+            "compact" => Some(Command::Compact),
             "help" | "--help" => Some(Command::Help),
             "version" | "--version" => Some(Command::Version),
             _ => None,
@@ -162,6 +166,7 @@ impl Command {
             | Command::Trace(_)
             | Command::Audit
             | Command::Logcheck
+            | Command::Compact
             | Command::Check(_) => true,
             Command::Drill { .. } | Command::Help | Command::Version => false,
         }
@@ -173,7 +178,7 @@ impl Command {
     {
         match self {
             Command::Replay | Command::Trace(_) => MOST_SCRIPT_BYTES,
-            Command::Audit => MOST_AUDITED_BYTES,
+            Command::Audit | Command::Compact => MOST_AUDITED_BYTES,
             Command::Logcheck => MOST_LOGCHECK_BYTES,
             Command::Check(_) => MOST_JSON_BYTES as u64,
             Command::Drill { .. } | Command::Help | Command::Version => 0,

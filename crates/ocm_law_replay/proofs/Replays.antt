@@ -25,6 +25,7 @@ done-wrote bytes ends.Script old new shelf zero wrote = absurd (cc)
 done-wrote bytes ends.NotJournal old new shelf zero wrote = absurd (cc)
 done-wrote bytes ends.Record old new shelf zero wrote = absurd (cc)
 done-wrote bytes ends.False old new shelf zero wrote = absurd (cc)
+done-wrote bytes ends.Differs old new shelf zero wrote = absurd (cc)
 
 pub command-wrote : (left : Option (List ℕ)) (status : ℕ) (old new : Option (List ℕ)) (shelf : List ShelfPlace) → status ≡ 0
     → IfSome left (λ bytes. (end : End) × (status ≡ end_status end) × Writes Replay bytes end old new shelf) → IfSome left (λ bytes. (text : List ℕ) × Appends old new text × ReplaysWell bytes text shelf)

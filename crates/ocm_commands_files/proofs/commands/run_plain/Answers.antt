@@ -12,6 +12,9 @@ returns-in-Audit-clause-part g c = rw c.in-Audit.is c.run_audit.ensures.part
 pub returns-in-Logcheck-clause-part : goal.returns-in-Logcheck-clause-part
 returns-in-Logcheck-clause-part g c = rw c.in-Logcheck.is c.run_logcheck.ensures.part
 
+pub returns-in-Compact-clause-part : goal.returns-in-Compact-clause-part
+returns-in-Compact-clause-part g c = rw c.in-Compact.is c.run_compact.ensures.part
+
 pub returns-in-Help-clause-part : goal.returns-in-Help-clause-part
 returns-in-Help-clause-part g c =
     let le = rw c.in-Help.is at c.requires.length in
