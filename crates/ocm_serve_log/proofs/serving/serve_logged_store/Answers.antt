@@ -58,6 +58,9 @@ returns-in-Ok-clause-kept g c = λ unserved. absurd (c.ended-served.ensures.serv
 pub returns-in-Err-clause-served : goal.returns-in-Err-clause-served
 returns-in-Err-clause-served g c = λ calls own has. absurd (subst (λ (r : Served). HasServed r calls own) c.run_of-in-Err.ensures.served has)
 
+pub returns-in-Ok-clause-unlogged : goal.returns-in-Ok-clause-unlogged
+returns-in-Ok-clause-unlogged g c = λ unserved. absurd (c.ended-served.ensures.served (subst (λ (r : Served). IsUnserved r) c.run_of.ensures.served unserved))
+
 pub returns-in-Err-clause-unlogged : goal.returns-in-Err-clause-unlogged
 returns-in-Err-clause-unlogged g c = λ _.
     let same = ap (λ l. l.log) (c.in-Err.ensures.same ∙ c.new-logged.ensures) in
