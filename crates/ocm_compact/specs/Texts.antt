@@ -3,7 +3,7 @@ use Rattle.std.specs.Prelude.{◌<◌, ◌^◌, ℕ, List, [], ◌∷◌, ◌++�
 use Rattle.ocm_entry.specs.declared.asks.Ask.{Ask}
 use Rattle.ocm_entry_bytes.specs.Spells.{Fits}
 use Rattle.ocm_law_alike.specs.Others.{Dated, is_aside}
-pub use Rattle.ocm_compact_candidates.specs.Dated.{dated_text}
+unfoldable pub use Rattle.ocm_compact_candidates.specs.Dated.{dated_text}
 
 -- the records of asks with their moments, which stand newest first: the oldest first
 abbrev pub dated_texts : List Dated → List (List ℕ)

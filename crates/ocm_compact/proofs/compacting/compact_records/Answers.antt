@@ -25,7 +25,7 @@ returns-in-Ok-Some-clause-refused c = λ place is.
     (below-then front.header front.form area arm.place c.requires.said c.requires.own
     (ap (λ h. refused_by h front.form [] area) (sym (c.new-old.ensures.home ∙ c.requires.host)) ∙ arm.ensures.refused ∙ ap (λ o. Ok o) arm.field-0-is)))
 
-pub returns-clause-refused : goal.returns-in-Err-clause-refused
+pub returns-clause-refused : goal.returns-clause-refused
 returns-clause-refused c = λ place is.
     (let front = c.args.front.now in
     let area = records_from 0 front.place front.records.now in
