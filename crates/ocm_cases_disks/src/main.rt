@@ -67,28 +67,28 @@ fn line_told<R: Files<File = File>>(rt: &R, alloc: Global, line: &str) -> Option
     match kind {
         "file" => file_told(rt, alloc, steps),
         "shelf" => shelf_told(alloc, steps),
-        "source" => source_told(alloc, words, steps),
-        "pure-source" => pure_source_told(alloc, words, steps),
-        "broken-source" => broken_source_told(alloc, steps),
-        _ => sink_or_value_told(alloc, kind, words, steps, line),
+        "list" => list_told(alloc, words),
+        "clock" => clock_told(alloc, words),
+        _ => stream_told(alloc, kind, words, steps, line),
     }
 }
 
-fn sink_or_value_told(
-    alloc: Global,
-    kind: &str,
-    words: &str,
-    steps: &str,
-    line: &str,
-) -> Option<String> {
+fn stream_told(alloc: Global, kind: &str, words: &str, steps: &str, line: &str) -> Option<String> {
     match kind {
+        "source" => source_told(alloc, words, steps),
+        "pure-source" => pure_source_told(alloc, words, steps),
+        "broken-source" => broken_source_told(alloc, steps),
         "sink" => sink_told(alloc, words, steps),
+        _ => other_told(alloc, kind, words, steps, line),
+    }
+}
+
+fn other_told(alloc: Global, kind: &str, words: &str, steps: &str, line: &str) -> Option<String> {
+    match kind {
         "pure-sink" => pure_sink_told(alloc, steps),
         "broken-sink" => broken_sink_told(alloc, steps),
-        "list" => list_told(alloc, words),
         "grown" => grown_told(alloc, words, steps),
         "owned" => owned_told(alloc, words),
-        "clock" => clock_told(alloc, words),
         "gate" => gate_told(alloc),
         _ => case_told(alloc, line),
     }

@@ -46,6 +46,12 @@ fn line_told(alloc: Global, line: &str) -> Option<String> {
         "replies" => replies_told(alloc, row),
         "each" => each_told(alloc, row),
         "failing" => failing_told(alloc, row),
+        _ => written_told(alloc, kind, row, line),
+    }
+}
+
+fn written_told(alloc: Global, kind: &str, row: &str, line: &str) -> Option<String> {
+    match kind {
         "write-request" => request_written(alloc, row),
         "write-reply" => reply_written(alloc, row),
         "write-fixed" => fixed_written(alloc, row),
