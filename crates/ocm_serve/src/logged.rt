@@ -122,13 +122,14 @@ where
         (slice_index_or all i []) count))
         (λ w. w.end) disk workers.items came }
 {
+    let ran = serve_logged(rt, alloc, plan, &mut workers, disk, log, draw_key);
     let LoggedRun {
         served,
         disk,
         sink,
         left_out,
         out_of_memory: _,
-    } = serve_logged(rt, alloc, plan, &mut workers, disk, log, draw_key);
+    } = ran;
     drop(sink);
     drop(disk);
     dismiss(workers);
