@@ -25,8 +25,7 @@ returns-clause-stands g c = λ k h s legal.
     let now = subst (λ (x : Store g.row.D.Denot g.D.Disk). time ≡ moment (kept (host_of x) (h ++ k))) same (c.moment-moment.ensures k h st) in
     let noted = c.note.ensures place time ask (c.text_of_read-read.ensures.other, c.text_of_read-read.ensures.text) _ s.1 in
     let written = subst (λ (l : List LogLine). Holds g.K.Sink.taken g.K.Sink.faults c.pass.new.self l) (sym (lines_more host k h ask reply place time at now)) (c.pass.ensures.holds _ noted) in
-    let more = loggable_more host k h ask reply place time at now c.text_of_read-read.ensures.loggable s.2 in (
-      c.act-reply.ensures.stands k h s.0 legal,
-      subst (λ (h2 : List ℕ). Holds g.K.Sink.taken g.K.Sink.faults c.pass.new.self (lines_since h2 k (record { ask = ask; reply = reply } ∷ h)) × AllByRecursion IsLoggable (lines_since h2 k (record { ask = ask; reply = reply } ∷ h)))
-          (ap (λ (o : Origin g.row.D.Denot g.D.Disk). o.terms.host) (sym c.act-reply.ensures.terms)) (written, more),
-    )
+    let more = loggable_more host k h ask reply place time at now c.text_of_read-read.ensures.loggable s.2 in
+    let logged = subst (λ (h2 : List ℕ). Holds g.K.Sink.taken g.K.Sink.faults c.pass.new.self (lines_since h2 k (record { ask = ask; reply = reply } ∷ h)) × AllByRecursion IsLoggable (lines_since h2 k (record { ask = ask; reply = reply } ∷ h)))
+    (ap (λ (o : Origin g.row.D.Denot g.D.Disk). o.terms.host) (sym c.act-reply.ensures.terms)) (written, more) in
+    (c.act-reply.ensures.stands k h s.0 legal, logged.0, logged.1)
