@@ -5,10 +5,10 @@ ghost use Rattle.ocm_serve_options.specs.Plans.{orders_of, texts};
 ghost use Rattle.ocm_serve_system.specs.Statuses.{IsStatus};
 ghost use Rattle.ocm_commands_files.specs.Commands.{usage_line};
 
-use ocm_base::{Sink, Text};
+use ocm_base::Sink;
 use ocm_commands_files::usage;
-use ocm_serve::{run, run_logged};
-use ocm_serve_options::{Orders, Plan, PlanFault, read_plan};
+use ocm_serve::run;
+use ocm_serve_options::{Orders, PlanFault, read_plan};
 use ocm_serve_system::{read_admin, tell_fault};
 use std::alloc::Global;
 use std::fs::File;
@@ -59,36 +59,15 @@ fn run_orders<
         + Files<File = File>
         + Eprint
         + Net<Listener = TcpListener, Stream = TcpStream>,
->(rt: &R, alloc: Global, mut orders: Orders) -> u8
+>(rt: &R, alloc: Global, orders: Orders) -> u8
     requires workers { 1 ≤ orders.workers }
     ensures { IsStatus result }
 {
-    let log = orders.log.take();
     match read_admin(rt, alloc, &orders.admin) {
-        Ok(admin) => run_plan(rt, alloc, &orders.plan(admin), log),
+        Ok(admin) => run(rt, alloc, &orders.plan(admin)),
         Err(fault) => {
             drop(orders);
-            drop(log);
             tell_fault(rt, fault)
         }
-    }
-}
-
-/// Runs the server of a plan, with the log that is a file at this path, where there is to be one.
-fn run_plan<
-    R: Threads
-        + Wait
-        + Sync
-        + time::Clock
-        + Files<File = File>
-        + Eprint
-        + Net<Listener = TcpListener, Stream = TcpStream>,
->(rt: &R, alloc: Global, plan: &Plan, log: Option<Text>) -> u8
-    requires workers { 1 ≤ plan.now.workers }
-    ensures { IsStatus result }
-{
-    match log {
-        Some(path) => run_logged(rt, alloc, plan, path.as_str()),
-        None => run(rt, alloc, plan),
     }
 }

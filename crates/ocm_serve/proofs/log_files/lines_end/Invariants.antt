@@ -1,6 +1,0 @@
-use Rattle.std.proofs.Common.{ℕ}
-use Rattle.ocm_serve.proofs.log_files.lines_end.Given as goal
-
--- each piece is read ahead of the one before
-abbrev pub decreases-loop-end : goal.decreases-loop-end
-decreases-loop-end l = l.end

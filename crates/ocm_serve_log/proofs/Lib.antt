@@ -1,4 +1,0 @@
-mod Holding
-mod Texts
-mod Told
-pub mod TrueLines
