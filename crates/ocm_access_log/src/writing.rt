@@ -7,11 +7,15 @@ ghost use Rattle.ocm_access_log.specs.Lines as lines;
 ghost use Rattle.ocm_access_log.specs.Lines.{is_reading, log_line, method_text};
 
 use crate::escapes::escaped;
+use itoa::Buffer;
 use ocm_base::{Bytes, NoMemory};
 use ocm_entry::Method;
 use ocm_path::Path;
 use ocm_types::Secret;
 use std::alloc::Global;
+
+/// How many bytes of memory a line is given at first: most lines have fewer.
+const ROOM: usize = 128;
 
 /// Whether a method reads: only such a request stands in a log.
 pub fn is_reading(method: Method) -> bool
@@ -38,11 +42,11 @@ fn method_text(method: Method) -> &'static [u8]
 }
 
 /// Adds a number, and a byte that ends it.
-fn add_number(alloc: Global, text: &mut Bytes, number: u64, end: u8) -> Result<(), NoMemory>
+fn add_number(text: &mut Bytes, number: u64, end: u8) -> Result<(), NoMemory>
     ensures { OnOk result (text.new ≡ text.old ++ decimal number ++ end ∷ []) }
 {
-    let digits = number.to_string(alloc)?;
-    text.add(digits.as_bytes())?;
+    let mut digits = Buffer::new();
+    text.add(digits.format(number).as_bytes())?;
     text.add(&[end])
 }
 
@@ -80,11 +84,11 @@ pub fn log_line(
     requires digits { (100 ≤ status) × (status ≤ 999) }
     ensures { IfOk result (λ text. text ≡ log_line place moment method secret.now path.now status) }
 {
-    let mut text = Bytes::new(alloc);
-    add_number(alloc, &mut text, place, b' ')?;
-    add_number(alloc, &mut text, moment, b' ')?;
+    let mut text = Bytes::from_vec(Vec::with_capacity(alloc, ROOM)?);
+    add_number(&mut text, place, b' ')?;
+    add_number(&mut text, moment, b' ')?;
     add_word(&mut text, method_text(method))?;
     add_target(alloc, &mut text, secret, path)?;
-    add_number(alloc, &mut text, u64::from(status), b'\n')?;
+    add_number(&mut text, u64::from(status), b'\n')?;
     Ok(text)
 }

@@ -23,7 +23,24 @@ pub fn plan_told(alloc: Global, text: &str) -> Option<String> {
     }
 }
 
+/// The orders, told: the file of the log last, where there is to be one.
 fn told(alloc: Global, orders: &Orders) -> Option<String> {
+    let told = told_without_log(alloc, orders)?;
+    match &orders.log {
+        Some(path) => with_log(alloc, told, path.as_str()),
+        None => Some(told),
+    }
+}
+
+/// What was told, and the file of the log behind it.
+fn with_log(alloc: Global, told: String, path: &str) -> Option<String> {
+    let line = format!(in alloc; "{} log {path}", told.as_str());
+    drop(told);
+    line.ok()
+}
+
+/// The orders, told, but for the log.
+fn told_without_log(alloc: Global, orders: &Orders) -> Option<String> {
     let host = orders.host.as_str();
     let disk = orders.disk.as_str();
     let (mark, admin) = match &orders.admin {

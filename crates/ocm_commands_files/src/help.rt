@@ -31,6 +31,7 @@ Options of serve; host, disk and one of the two for the key have to be there:
   --workers NUMBER       how many threads, 1 to 64; default 4
   --key-file FILE        32 random bytes; default /dev/urandom
   --connections NUMBER   for each worker, 0 for no end; default 0
+  --log FILE             what readers were answered, for logcheck
 
 Exit status:
    0  done                             9  the input is too long

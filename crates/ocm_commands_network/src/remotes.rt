@@ -1,9 +1,10 @@
 //! The command `dav`.
-ghost use Rattle.std.specs.Prelude.{◌≡◌, ◌⊎◌, map};
+ghost use Rattle.std.specs.Prelude.{◌≡◌, ◌⊎◌, ◌<◌, IfSome, length, map};
 ghost use Rattle.std.specs.String.{string_bytes};
-ghost use Rattle.ocm_base.specs.Outside.{Appends, Rose};
+ghost use Rattle.ocm_base.specs.Outside.{Appends, AppendsPart, Rose};
+ghost use Rattle.ocm_commands_network.specs.Remotes.{TellsAnswer, TellsPart};
 ghost use Rattle.ocm_commands_network.specs.Words as specified;
-ghost use Rattle.ocm_commands_dav.specs.Answers.{status_of};
+ghost use Rattle.ocm_commands_dav.specs.Answers.{IsTold, status_of};
 ghost use Rattle.ocm_commands_dav.specs.Exchanges.{AsksPut};
 ghost use Rattle.ocm_commands_dav.specs.Words.{IsOther, usage_line};
 
@@ -32,11 +33,27 @@ pub fn run_remote<
     S: Source,
     K: Sink,
 >(rt: &R, alloc: Global, words: &[String], source: &mut S, sink: &mut K) -> End
+    // other words: the line of the commands
     ensures usage { result ≡ End.Usage → IsOther (map (λ word. string_bytes word) words.now) }
     ensures usage_line { result ≡ End.Usage → Appends (K.taken sink.old) (K.taken sink.new) usage_line }
     ensures other_words { IsOther (map (λ word. string_bytes word) words.now) → (result ≡ End.Usage) ⊎ (result ≡ End.WriteFault) ⊎ (result ≡ End.NoMemory) }
+    ensures part_of_usage { IsOther (map (λ word. string_bytes word) words.now) → result ≡ End.WriteFault
+        → AppendsPart (K.taken sink.old) (K.taken sink.new) usage_line }
+
+    // the source: only the bytes of `put` are read
     ensures unread { (AsksPut (map (λ word. string_bytes word) words.now) → ⊥) → source.new ≡ source.old }
     ensures read_fault { result ≡ End.ReadFault → Rose (S.faults source.old) (S.faults source.new) }
+    ensures read_for_put { (result ≡ End.ReadFault) ⊎ (result ≡ End.TooLong) → AsksPut (map (λ word. string_bytes word) words.now) }
+    ensures too_long { result ≡ End.TooLong → IfSome (S.left source.old) (λ bytes. 1048576 < length bytes) }
+
+    // where nothing is written
+    ensures unwritten { (result ≡ End.ReadFault) ⊎ (result ≡ End.TooLong) ⊎ (result ≡ End.NoMemory) → K.taken sink.new ≡ K.taken sink.old }
+
+    // else an answer to what the words ask for, by which it ends
+    ensures told { IsTold result
+        → TellsAnswer (map (λ word. string_bytes word) words.now) (S.left source.old) (S.left source.new) result (K.taken sink.old) (K.taken sink.new) }
+    ensures part { result ≡ End.WriteFault
+        → TellsPart (map (λ word. string_bytes word) words.now) (S.left source.old) (S.left source.new) (K.taken sink.old) (K.taken sink.new) }
     ensures write_fault { result ≡ End.WriteFault → Rose (K.faults sink.old) (K.faults sink.new) }
 {
     let mut dial = ClientDial::new(rt);

@@ -7,7 +7,6 @@ use Rattle.ocm_rules.specs.Shares.{moment}
 use Rattle.ocm_rules.specs.State.{State, node_at, state_of}
 use Rattle.ocm_rules.specs.Views.{View}
 use Rattle.ocm_rules.proofs.Kept.{kept-answered}
-use Rattle.ocm_core.specs.Standing.{IsAfter}
 use Rattle.ocm_core.proofs.Standing.{view-after}
 use Rattle.ocm_law_alike.specs.Alike.{AnswersAlike, AreAlike}
 use Rattle.ocm_law_alike.specs.Others.{others}

@@ -1,13 +1,10 @@
 -- The host of a label.
-use Rattle.std.proofs.Common.{◌≡◌, ℕ, ◌+◌, ◌<◌, ◌≤◌, List, ◌∷◌, length, drop, get_or, Bool, true, false, ◌&&◌, refl, sym, ap, ◌∙◌, Option, Some, None}
+use Rattle.std.proofs.Common.{◌≡◌, ℕ, List, Bool, true, false, ◌&&◌, refl, sym, ap, ◌∙◌, Option, Some, None}
 use Rattle.std.specs.Prelude.{if◌then◌else◌, is_some}
 use Rattle.std.specs.Str.{is_utf8}
-use Rattle.std.proofs.lemmas.List.{drop_all, drop_more}
-use Rattle.ocm_journal_image.specs.declared.readings.RawRecord.{RawRecord}
 use Rattle.ocm_types.specs.Hosts.{canonical_host_of}
 use Rattle.ocm_types.proofs.HostReading.{canonical_host_of-is}
 use Rattle.ocm_journal_audit.specs.Audits.{is_own_host}
-use Rattle.ocm_journal_records.specs.Stamps.{moment_past, refused_from}
 
 -- the host whose own text a label is
 abbrev pub IsHostOf : List ℕ → Option (List ℕ) → Type 0

@@ -4,21 +4,20 @@ use Rattle.std.specs.Prelude.{IfOk, IsOk}
 use Rattle.ocm_entry.specs.declared.entries.Entry.{Entry}
 use Rattle.ocm_entry_bytes.specs.Spells.{AreBytes}
 use Rattle.ocm_journal_image.specs.Blank.{IsBlankForAny}
-use Rattle.ocm_journal_image.specs.Layout.{IsAreaSize, contents}
+use Rattle.ocm_journal_image.specs.Layout.{IsAreaSize}
 use Rattle.ocm_journal_image.specs.Reading.{Gives, image_of, with_form, with_header}
 use Rattle.ocm_journal_image.specs.declared.faults.ImageFault.{ImageFault}
 use Rattle.ocm_journal_image.specs.declared.faults.ImageFault.TheVariants as image_faults
 use Rattle.ocm_journal_image.specs.declared.readings.Header.{Header}
-use Rattle.ocm_journal_image.specs.declared.readings.Image.{Image}
 use Rattle.ocm_journal_image.specs.declared.readings.Records.{Records}
 use Rattle.ocm_journal_image.proofs.ReadBack.{image_stands}
 use Rattle.ocm_journal_audit.specs.Audits.{is_own_host}
 use Rattle.ocm_journal_audit.specs.Passes.{refused_in}
 use Rattle.ocm_journal_records.specs.Stamps as stamps
-use Rattle.ocm_law_sessions.specs.Readings.{opened, refused_at}
+use Rattle.ocm_law_sessions.specs.Readings.{refused_at}
 use Rattle.ocm_compact.specs.declared.faults.CompactFault.{CompactFault}
 use Rattle.ocm_compact.specs.declared.faults.CompactFault.TheVariants as faults
-use Rattle.ocm_compact.specs.Compacts.{Compacts, IsLeastAfter, IsLeastOf, IsMadeBelow, IsMadeOf, IsRefusedAt, IsRefusedBelow, fault_of, image_with, refused_of}
+use Rattle.ocm_compact.specs.Compacts.{Compacts, IsLeastAfter, IsMadeBelow, IsMadeOf, IsRefusedAt, IsRefusedBelow, IsTaken, IsTakenBelow, fault_of, image_with, refused_of}
 use Rattle.ocm_compact.specs.Replays.{IsReplayOf, opened_by, refused_by}
 use Rattle.ocm_compact.specs.declared.replays.Replay.{Replay}
 
@@ -67,6 +66,14 @@ below-then header form (Ok read) place none own is =
     inr (read, refl, refused-then header form read (Some place) (ok-same (stamps.refused_from form 0 read.items) None none) own (ok-same (refused_at header.label form read.items) (Some place) is))
 below-then header form (Err other) place none own is = absurd (not-both None other (sym none))
 
+-- no record is refused
+pub below-taken : (header : Header) (home : List ℕ) (form : ℕ) (area : Result Records ℕ) → home ≡ header.label → refused_in form 0 area ≡ Ok None → is_own_host header.label ≡ true
+    → refused_by home form [] area ≡ Ok None → IsTakenBelow header form area
+below-taken header home form (Ok read) also none own is =
+    let all = ap (λ h. refused_by h form [] (Ok read)) (sym also) ∙ is in
+    (read, refl, refused-then header form read None (ok-same (stamps.refused_from form 0 read.items) None none) own (ok-same (refused_at header.label form read.items) None all))
+below-taken header home form (Err other) also none own is = absurd (not-both None other (sym none))
+
 -- ---- what is made below a header
 
 pub below-made : (header : Header) (form : ℕ) (area : Result Records ℕ) (k : List Entry) (made : List ℕ) → refused_in form 0 area ≡ Ok None → is_own_host header.label ≡ true
@@ -89,6 +96,11 @@ refused-at bytes header form area place other is (inl framing) = (other, inl (is
 refused-at bytes header form area place other is (inr below) =
     (other, inr (image_with header form below.0, is ∙ ap (λ a. with_header header (with_form form a)) below.1, below.2))
 
+pub taken-of : (bytes : List ℕ) (header : Header) (form : ℕ) (area : Result Records ℕ) → (IsBlankForAny bytes → ⊥) → image_of bytes ≡ with_header header (with_form form area)
+    → IsTakenBelow header form area → IsTaken bytes
+taken-of bytes header form area other is below =
+    (other, (image_with header form below.0, is ∙ ap (λ a. with_header header (with_form form a)) below.1, below.2))
+
 -- ---- faults
 
 pub framed-of : (form : ℕ) (area : Result Records ℕ) (refused : Option ℕ) → refused_in form 0 area ≡ Ok refused → IsOk area
@@ -100,6 +112,11 @@ journal-same x y h = cc
 
 not-journal : (place : ℕ) → faults.NoMemory ≡ faults.NotJournal place → ⊥
 not-journal place h = cc
+
+-- a fault of an image is never told as a difference
+pub fault-differs : (fault : ImageFault) (told : CompactFault) → told ≡ fault_of fault → told ≡ faults.Differs → ⊥
+fault-differs (image_faults.NotJournal place) told same differs = cc
+fault-differs image_faults.NoMemory told same differs = cc
 
 -- a fault of the front of an image
 pub told-fault : (bytes : List ℕ) (fault : ImageFault) (told : CompactFault) → told ≡ fault_of fault → (IsBlankForAny bytes → ⊥) → Gives (Err fault) (image_of bytes) → Compacts bytes (Err told)
@@ -122,11 +139,12 @@ below-lost header host form (Ok read) image_faults.NoMemory told place same ok i
 
 -- what was made of an image, or why it was refused
 pub made-or-refused : (bytes : List ℕ) (header : Header) (form : ℕ) (area : Result Records ℕ) (told : Result (List ℕ) CompactFault) → (IsBlankForAny bytes → ⊥) → image_of bytes ≡ with_header header (with_form form area)
-    → IfOk told (IsMadeBelow header form area) → ((place : ℕ) → told ≡ Err (faults.NotJournal place) → IsRefusedBelow header form area place) → Compacts bytes told
-made-or-refused bytes header form area (Ok made) other is made_of refused = made-of bytes header form area made other is made_of
-made-or-refused bytes header form area (Err (faults.NotJournal place)) other is made_of refused = refused-at bytes header form area place other is (refused place refl)
-made-or-refused bytes header form area (Err faults.Differs) other is made_of refused = other
-made-or-refused bytes header form area (Err faults.NoMemory) other is made_of refused = tt
+    → IfOk told (IsMadeBelow header form area) → ((place : ℕ) → told ≡ Err (faults.NotJournal place) → IsRefusedBelow header form area place)
+    → (told ≡ Err faults.Differs → IsTakenBelow header form area) → Compacts bytes told
+made-or-refused bytes header form area (Ok made) other is made_of refused taken = made-of bytes header form area made other is made_of
+made-or-refused bytes header form area (Err (faults.NotJournal place)) other is made_of refused taken = refused-at bytes header form area place other is (refused place refl)
+made-or-refused bytes header form area (Err faults.Differs) other is made_of refused taken = taken-of bytes header form area other is (taken refl)
+made-or-refused bytes header form area (Err faults.NoMemory) other is made_of refused taken = tt
 
 -- the place that is told
 pub refused-as : (header : Header) (form : ℕ) (area : Result Records ℕ) (found place : ℕ) → ◌≡◌ {A = Result (List ℕ) CompactFault} (Err (faults.NotJournal found)) (Err (faults.NotJournal place))

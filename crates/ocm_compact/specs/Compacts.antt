@@ -30,6 +30,10 @@ abbrev pub IsRefusedAt : List ℕ → ℕ → Type 0
 IsRefusedAt bytes place =
     (IsBlankForAny bytes → ⊥) × ((image_of bytes ≡ Err place) ⊎ ((image : Image) × (image_of bytes ≡ Ok image) × (refused_of image ≡ Some place)))
 
+-- bytes are a journal that a server would load: an image that is refused nowhere
+abbrev pub IsTaken : List ℕ → Type 0
+IsTaken bytes = (IsBlankForAny bytes → ⊥) × ((image : Image) × (image_of bytes ≡ Ok image) × (refused_of image ≡ None))
+
 -- These bytes are an image of a host with this area size, and open in form 2 to a list after which each ask is answered as
 -- after this one, now and after any further entries.
 pub record IsLeastAfter (host : List ℕ) (area : ℕ) (k : List Entry) (bytes : List ℕ) : Type 0 where
@@ -57,6 +61,10 @@ IsMadeBelow header form area made = (read : Records) × (area ≡ Ok read) × Is
 abbrev pub IsRefusedBelow : Header → ℕ → Result Records ℕ → ℕ → Type 0
 IsRefusedBelow header form area place = (area ≡ Err place) ⊎ ((read : Records) × (area ≡ Ok read) × (refused_of (image_with header form read) ≡ Some place))
 
+-- an area of this form below a header has such records that the image is refused nowhere
+abbrev pub IsTakenBelow : Header → ℕ → Result Records ℕ → Type 0
+IsTakenBelow header form area = (read : Records) × (area ≡ Ok read) × (refused_of (image_with header form read) ≡ None)
+
 -- records of form 2 open to a list after which each ask is answered as after this one
 pub record ComesToAlike (host : List ℕ) (k : List Entry) (records : List (List ℕ)) : Type 0 where
   pub least : List Entry
@@ -77,5 +85,5 @@ fault_of image_faults.NoMemory = NoMemory
 abbrev pub Compacts : List ℕ → Result (List ℕ) CompactFault → Type 0
 Compacts bytes (Ok made) = IsMadeOf bytes made
 Compacts bytes (Err (NotJournal place)) = IsRefusedAt bytes place
-Compacts bytes (Err Differs) = IsBlankForAny bytes → ⊥
+Compacts bytes (Err Differs) = IsTaken bytes
 Compacts bytes (Err NoMemory) = Unit {0}

@@ -5,7 +5,7 @@ ghost use Rattle.ocm_journal_audit.specs.Audits.{is_own_host};
 ghost use Rattle.ocm_journal_audit.specs.Passes.{refused_in};
 ghost use Rattle.ocm_journal_image.specs.Layout.{IsAreaSize, IsLabel};
 ghost use Rattle.ocm_journal_image.specs.Reading.{records_from};
-ghost use Rattle.ocm_compact.specs.Compacts.{ComesToAlike, Compacts, IsLeastAfter, IsMadeBelow, IsRefusedBelow, fault_of};
+ghost use Rattle.ocm_compact.specs.Compacts.{ComesToAlike, Compacts, IsLeastAfter, IsMadeBelow, IsRefusedBelow, IsTakenBelow, fault_of};
 ghost use Rattle.ocm_compact.specs.Replays.{IsReplayOf, home_of};
 
 use crate::comparing::are_alike;
@@ -57,6 +57,8 @@ fn compact_front(alloc: Global, front: &Front<'_>) -> Result<Bytes, CompactFault
     ensures made { IfOk result (IsMadeBelow front.now.header front.now.form (records_from 0 front.now.place front.now.records.now)) }
     ensures refused { (place : ℕ) → result ≡ Err (CompactFault.NotJournal place)
         → IsRefusedBelow front.now.header front.now.form (records_from 0 front.now.place front.now.records.now) place }
+    ensures differs { result ≡ Err CompactFault.Differs
+        → IsTakenBelow front.now.header front.now.form (records_from 0 front.now.place front.now.records.now) }
 {
     match first_refused(alloc, front.form, front.place, front.records) {
         Ok(refused) => compact_framed(alloc, front, refused),
@@ -78,6 +80,8 @@ fn compact_framed(
     ensures made { IfOk result (IsMadeBelow front.now.header front.now.form (records_from 0 front.now.place front.now.records.now)) }
     ensures refused { (place : ℕ) → result ≡ Err (CompactFault.NotJournal place)
         → IsRefusedBelow front.now.header front.now.form (records_from 0 front.now.place front.now.records.now) place }
+    ensures differs { result ≡ Err CompactFault.Differs
+        → IsTakenBelow front.now.header front.now.form (records_from 0 front.now.place front.now.records.now) }
 {
     let host = own_host(alloc, front.header.label.as_slice())?;
     match (host, refused) {
@@ -101,6 +105,8 @@ fn compact_records(alloc: Global, host: Host, front: &Front<'_>) -> Result<Bytes
     ensures made { IfOk result (IsMadeBelow front.now.header front.now.form (records_from 0 front.now.place front.now.records.now)) }
     ensures refused { (place : ℕ) → result ≡ Err (CompactFault.NotJournal place)
         → IsRefusedBelow front.now.header front.now.form (records_from 0 front.now.place front.now.records.now) place }
+    ensures differs { result ≡ Err CompactFault.Differs
+        → IsTakenBelow front.now.header front.now.form (records_from 0 front.now.place front.now.records.now) }
 {
     let mut old = Replay::new(alloc, host);
     match old.take_area(front.form, front.place, front.records) {

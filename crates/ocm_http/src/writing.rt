@@ -13,6 +13,9 @@ use ocm_http_heads::Field;
 use ocm_types::{Host, Secret};
 use std::alloc::Global;
 
+/// The room that is taken for a reply's head, in bytes. Most heads fit, and a longer one takes more.
+const HEAD_ROOM: usize = 512;
+
 /// The replies that take no memory.
 #[derive(Clone, Copy)]
 pub enum Fixed {
@@ -141,7 +144,8 @@ fn status_line(alloc: Global, status: u16) -> Result<Bytes, NoMemory>
     ensures { IfOk result (λ t. t ≡ written.status_line status) }
 {
     let digits = status.to_string(alloc)?;
-    let mut text = Bytes::of(alloc, b"HTTP/1.1 ")?;
+    let mut text = Bytes::from_vec(Vec::with_capacity(alloc, HEAD_ROOM)?);
+    text.add(b"HTTP/1.1 ")?;
     text.add(digits.as_bytes())?;
     text.add(b" ")?;
     text.add(phrase(status).as_bytes())?;

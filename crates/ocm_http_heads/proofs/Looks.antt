@@ -13,12 +13,12 @@ then_found (Whole n) k f = Whole n
 then_found (TooLong bare) k f = TooLong bare
 then_found Unfinished k f = further k f
 
-further_twice : (m n : ℕ) (f : Found) → further m (further n f) ≡ further (m + n) f
+pub further_twice : (m n : ℕ) (f : Found) → further m (further n f) ≡ further (m + n) f
 further_twice m n (Whole k) = ap Whole (sym (add_assoc m n k))
 further_twice m n (TooLong bare) = refl
 further_twice m n Unfinished = refl
 
-further_none : (f : Found) → further 0 f ≡ f
+pub further_none : (f : Found) → further 0 f ≡ f
 further_none (Whole k) = let e : 0 + k ≡ k = omega arith in ap Whole e
 further_none (TooLong bare) = refl
 further_none Unfinished = refl

@@ -1,11 +1,19 @@
 -- Where a head ends: its first empty line (RFC 9112 sections 2.1 and 2.2), within so many bytes and lines.
-use Rattle.std.specs.Prelude.{ℕ, ◌+◌, ◌-◌, Bool, false, ◌&&◌, ◌||◌, ◌==◌, List, [], ◌∷◌, if◌then◌else◌}
+use Rattle.std.specs.Prelude.{ℕ, ◌+◌, ◌-◌, Bool, false, not, ◌&&◌, ◌||◌, ◌==◌, List, [], ◌∷◌, if◌then◌else◌}
 use Rattle.ocm_limits.specs.Limits.{most_head_bytes, most_head_lines}
 use Rattle.ocm_http_heads.specs.declared.endings.Stand.{Stand}
 use Rattle.ocm_http_heads.specs.declared.endings.Stand.TheVariants.{Before, InLine, AtLine, AfterReturn}
 use Rattle.ocm_http_heads.specs.declared.endings.Look.{Look}
 use Rattle.ocm_http_heads.specs.declared.endings.Found.{Found}
 use Rattle.ocm_http_heads.specs.declared.endings.Found.TheVariants.{Whole, TooLong, Unfinished}
+
+-- whether a byte is LF
+abbrev pub is_feed : ℕ → Bool
+is_feed b = b == 10
+
+-- whether a byte leaves a look in the line where it stands
+abbrev pub is_in_line : ℕ → Bool
+is_in_line b = not (is_feed b)
 
 -- whether a byte is CR or LF
 abbrev pub is_blank : ℕ → Bool

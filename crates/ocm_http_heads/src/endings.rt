@@ -1,6 +1,7 @@
-ghost use Rattle.std.specs.Prelude.{◌≡◌, ◌+◌, ◌≤◌, length};
+ghost use Rattle.std.specs.Prelude.{◌≡◌, ◌+◌, ◌≤◌, length, drop};
 ghost use Rattle.ocm_http_heads.specs.Endings as endings;
 
+use crate::feeds::before_feed;
 use ocm_limits::{MOST_HEAD_BYTES, MOST_HEAD_LINES};
 
 /// Where a look for an empty line stands.
@@ -133,20 +134,47 @@ impl Look {
         }
     }
 
+    /// Passes over the bytes before the next LF, as many as are allowed, where it stands in a line. Answers how many.
+    #[inline(always)]
+    fn skip(&mut self, piece: &[u8]) -> usize
+        ensures within { result ≤ length piece.now }
+        ensures found { endings.found self.old piece.now ≡ endings.further result (endings.found self.new (drop result piece.now)) }
+        ensures moved { endings.moved self.old piece.now ≡ endings.moved self.new (drop result piece.now) }
+    {
+        match self.stand {
+            Stand::InLine => {
+                let count = before_feed(piece).min(self.size as usize);
+                self.size -= count as u32;
+                count
+            }
+            Stand::Before => 0,
+            Stand::AtLine => 0,
+            Stand::AfterReturn => 0,
+        }
+    }
+
     /// Looks on in the next piece. Where nothing is found the look goes on behind it.
     pub fn look(&mut self, piece: &[u8]) -> Found
         ensures found { result ≡ endings.found self.old piece.now }
         ensures moved { result ≡ Found.Unfinished → self.new ≡ endings.moved self.old piece.now }
     {
-        for (i, byte) in piece.iter().enumerate() {
-            if self.passes(*byte) {
-                return Found::TooLong(self.is_bare(*byte));
+        let mut here = *self;
+        let mut i = 0;
+        while i < piece.len() {
+            i += here.skip(&piece[i..]);
+            if i < piece.len() {
+                let byte = piece[i];
+                if here.passes(byte) {
+                    return Found::TooLong(here.is_bare(byte));
+                }
+                if here.ends(byte) {
+                    return Found::Whole(i + 1);
+                }
+                here = here.stepped(byte);
+                i += 1;
             }
-            if self.ends(*byte) {
-                return Found::Whole(i + 1);
-            }
-            *self = self.stepped(*byte);
         }
+        *self = here;
         Found::Unfinished
     }
 }

@@ -5,6 +5,7 @@
 mod chunk_lines;
 mod closings;
 mod endings;
+mod feeds;
 mod fields;
 mod laws;
 mod lengths;
@@ -14,6 +15,7 @@ mod requests;
 pub use chunk_lines::{ChunkLine, read_chunk_line};
 pub use closings::{are_ows, skip_ows};
 pub use endings::{Found, Look, Stand, blanks};
+pub use feeds::before_feed;
 pub use fields::{Field, Head};
 pub use laws::{head_ends_with_first_empty_line, trailers_end_with_first_empty_line};
 pub use lengths::{Length, LengthFault, length_of_reply, length_of_request};

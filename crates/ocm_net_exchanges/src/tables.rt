@@ -1,5 +1,7 @@
 //! What one delivering worker knows: the exchanges that are under way, the replies that wait for it, what is known of
 //! hosts, and when its next round is due.
+ghost use Rattle.std.specs.Prelude.{◌≡◌, IfOk};
+ghost use Rattle.ocm_net_exchanges.specs.Keeps.{reply_for};
 
 use crate::hosts::{HostNote, Hosts, Noted};
 use crate::keeps::Keeps;
@@ -124,7 +126,9 @@ impl Table {
         host: &str,
         request: &[u8],
         now: u64,
-    ) -> Result<Option<Bytes>, ExchangeFault> {
+    ) -> Result<Option<Bytes>, ExchangeFault>
+        ensures { IfOk result (λ found. found ≡ reply_for host.now request.now now self.old.keeps.kept.items) }
+    {
         self.awaited = None;
         self.has_replied = false;
         let found = self.keeps.take(host, request, now)?;

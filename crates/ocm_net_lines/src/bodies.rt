@@ -7,7 +7,8 @@ ghost use Rattle.ocm_net_lines.specs.Bodies as bodies;
 
 use ocm_base::NoMemory;
 use ocm_http_heads::{
-    Field, Found, Head, Length, Look, are_ows, blanks, length_of_request, read_request, skip_ows,
+    Field, Found, Head, Length, Look, are_ows, before_feed, blanks, length_of_request,
+    read_request, skip_ows,
 };
 use ocm_limits::MOST_BODY_BYTES;
 use std::alloc::Global;
@@ -63,18 +64,27 @@ fn begins_as(line: &[u8], word: &[u8]) -> bool {
     }
 }
 
+/// Whether a line may be a field that tells of a body. Most lines are told by their first byte.
+fn may_tell(line: &[u8]) -> bool {
+    match line {
+        [b'c' | b'C', ..] => begins_as(line, b"content-length"),
+        [b't' | b'T', ..] => begins_as(line, b"transfer-encoding"),
+        _ => false,
+    }
+}
+
 /// Whether a line of a head may be a field that tells of a body (RFC 9112 section 6.3). Where none is, a request ends
 /// with its head, also one that is refused.
 pub fn may_announce(head: &[u8]) -> bool {
     let mut rest = head;
     for _ in 0..=head.len() {
-        if begins_as(rest, b"content-length") || begins_as(rest, b"transfer-encoding") {
+        if may_tell(rest) {
             return true;
         }
-        let Some(end) = rest.iter().position(|byte| *byte == b'\n') else {
+        let Some(next) = rest.get(before_feed(rest).saturating_add(1)..) else {
             return false;
         };
-        rest = rest.get(end.saturating_add(1)..).unwrap_or_default();
+        rest = next;
     }
     true
 }

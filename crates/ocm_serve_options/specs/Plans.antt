@@ -29,12 +29,12 @@ needed name = record (option name) { required = true }
 abbrev pub optional : Text → Text → Rule
 optional name value = record (option name) { defaults = value ∷ [] }
 
--- the command: eight options, each of one value, and nothing else
+-- the command: nine options, each of one value, and nothing else
 abbrev pub serve : App
-serve = with_rule (with_rule (with_rule (with_rule (with_rule (with_rule (with_rule (with_rule (on_top (λ s. record s { disable_help_flag = true }) (new_app (codes "serve")))
+serve = with_rule (with_rule (with_rule (with_rule (with_rule (with_rule (with_rule (with_rule (with_rule (on_top (λ s. record s { disable_help_flag = true }) (new_app (codes "serve")))
     (needed (codes "host"))) (needed (codes "disk"))) (option (codes "admin"))) (option (codes "admin-file")))
     (optional (codes "listen") (codes "127.0.0.1:8080"))) (optional (codes "workers") (codes "4")))
-    (optional (codes "key-file") (codes "/dev/urandom"))) (optional (codes "connections") (codes "0"))
+    (optional (codes "key-file") (codes "/dev/urandom"))) (optional (codes "connections") (codes "0"))) (option (codes "log"))
 
 abbrev pub texts : List (String Global) → List Text
 texts = map string_bytes
@@ -104,7 +104,7 @@ places_at rows = do
   disk ← first_of (codes "disk") rows
   listen ← first_of (codes "listen") rows
   key_file ← first_of (codes "key-file") rows
-  Some (record { disk = disk; listen = listen; key_file = key_file })
+  Some (record { disk = disk; listen = listen; key_file = key_file; log = first_of (codes "log") rows })
 
 -- the orders by the values of the options
 unfoldable pub orders_by : List Row → Option Orders
@@ -112,7 +112,7 @@ orders_by rows = do
   numbers ← numbers_at rows
   names ← names_at rows
   places ← places_at rows
-  Some (record { host = names.host; disk = places.disk; admin = names.admin; listen = places.listen; workers = numbers.workers; key_file = places.key_file; connections = numbers.connections })
+  Some (record { host = names.host; disk = places.disk; admin = names.admin; listen = places.listen; workers = numbers.workers; key_file = places.key_file; connections = numbers.connections; log = places.log })
 
 -- the orders by the words
 unfoldable pub orders_of : List Text → Option Orders

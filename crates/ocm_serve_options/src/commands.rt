@@ -37,7 +37,7 @@ fn option_with<'a>(alloc: Global, name: &'a str, value: &'a str) -> Arg<'a>
         .default_value(value)
 }
 
-/// The command `serve` with its eight options, and nothing else.
+/// The command `serve` with its nine options, and nothing else.
 pub(crate) fn serve_command<'a>(alloc: Global) -> Result<Command<'a>, AllocError>
     ensures { IfOk result (λ c. app_of c ≡ serve) }
 {
@@ -50,6 +50,7 @@ pub(crate) fn serve_command<'a>(alloc: Global) -> Result<Command<'a>, AllocError
     let workers = option_with(alloc, "workers", "4");
     let key_file = option_with(alloc, "key-file", "/dev/urandom");
     let connections = option_with(alloc, "connections", "0");
+    let log = free_option(alloc, "log");
     let c1 = bare.arg(host)?;
     let c2 = c1.arg(disk)?;
     let c3 = c2.arg(admin)?;
@@ -57,5 +58,6 @@ pub(crate) fn serve_command<'a>(alloc: Global) -> Result<Command<'a>, AllocError
     let c5 = c4.arg(listen)?;
     let c6 = c5.arg(workers)?;
     let c7 = c6.arg(key_file)?;
-    c7.arg(connections)
+    let c8 = c7.arg(connections)?;
+    c8.arg(log)
 }

@@ -32,6 +32,7 @@ pub(crate) struct Places {
     pub disk: Text,
     pub listen: Text,
     pub key_file: Text,
+    pub log: Option<Text>,
 }
 
 /// The text that an option is.
@@ -153,6 +154,19 @@ fn text_at(alloc: Global, matches: &ArgMatches<'_>, name: &str) -> Result<Text, 
     }
 }
 
+/// The text that an option is, in memory of its own, where it is there.
+fn text_if(alloc: Global, matches: &ArgMatches<'_>, name: &str) -> Result<Option<Text>, PlanFault>
+    ensures { Reads result (Some (first_of name.now (rows_of (found_of matches.now)))) }
+{
+    match value_at(matches, name) {
+        Some(text) => match Text::of(alloc, text) {
+            Ok(text) => Ok(Some(text)),
+            Err(NoMemory) => Err(PlanFault::NoMemory),
+        },
+        None => Ok(None),
+    }
+}
+
 /// Texts that are taken as they are.
 #[tactic(auto, unfolding(crate::specs::Plans::places_at))]
 pub(crate) fn places_at(alloc: Global, matches: &ArgMatches<'_>) -> Result<Places, PlanFault>
@@ -161,9 +175,11 @@ pub(crate) fn places_at(alloc: Global, matches: &ArgMatches<'_>) -> Result<Place
     let disk = text_at(alloc, matches, "disk")?;
     let listen = text_at(alloc, matches, "listen")?;
     let key_file = text_at(alloc, matches, "key-file")?;
+    let log = text_if(alloc, matches, "log")?;
     Ok(Places {
         disk,
         listen,
         key_file,
+        log,
     })
 }

@@ -61,6 +61,8 @@ pub struct Orders {
     pub key_file: Text,
     /// How many connections each worker serves, 0 for no end.
     pub connections: u64,
+    /// The file of the log of what readers are answered, where there is to be one.
+    pub log: Option<Text>,
 }
 
 impl Drop for Orders {
@@ -73,6 +75,7 @@ impl Drop for Orders {
             workers: _,
             key_file: _,
             connections: _,
+            log: _,
         } = self;
     }
 }
@@ -90,6 +93,7 @@ impl Orders {
             workers,
             key_file,
             connections,
+            log: _,
         } = self;
         Plan {
             host,

@@ -11,6 +11,6 @@ mod told_disks;
 
 pub use admin_keys::read_admin;
 pub use host_names::tell_host;
-pub use notes::{Note, tell_end, tell_fault, tell_place};
+pub use notes::{Note, tell_end, tell_fault, tell_log, tell_place};
 pub use openings::{Cause, OpenFault, Opening, StandIns};
 pub use told_disks::ToldDisk;

@@ -49,6 +49,13 @@ pub fn tell_place<R: Eprint>(rt: &R, opening: &Opening) {
     let _ = eprintln!(rt; "ocmd: listening on {address}");
 }
 
+/// Tells how many lines the log of a server that ended does not have, where there are such.
+pub fn tell_log<R: Eprint>(rt: &R, left_out: u64) {
+    if 0 < left_out {
+        let _ = eprintln!(rt; "ocmd: the log could not be written; lines left out: {left_out}");
+    }
+}
+
 /// Tells why a server cannot begin, and answers the status: 5 for want of memory, else 12.
 pub fn tell_fault<R: Eprint>(rt: &R, fault: OpenFault) -> u8
     ensures exact { result ≡ fault_status fault }

@@ -111,6 +111,8 @@ pub enum Cause {
     Denied,
     /// It is a folder.
     Folder,
+    /// It is a link, a device or a pipe.
+    NoFile,
     /// Another process has it.
     InUse,
     /// It is no address of this machine.
@@ -121,7 +123,7 @@ pub enum Cause {
 
 impl Cause {
     /// What an error says.
-    pub(crate) fn of(error: &io::Error) -> Cause {
+    pub fn of(error: &io::Error) -> Cause {
         match error.kind() {
             ErrorKind::NotFound => Cause::NotFound,
             ErrorKind::PermissionDenied => Cause::Denied,
@@ -139,6 +141,7 @@ impl fmt::Display for Cause {
             Cause::NotFound => ": there is no such file or folder",
             Cause::Denied => ": there is no right to it",
             Cause::Folder => ": it is a folder",
+            Cause::NoFile => ": it is no plain file",
             Cause::InUse => ": it is in use",
             Cause::NotHere => ": this machine has no such address",
             Cause::Other => "",
@@ -167,6 +170,18 @@ pub enum OpenFault {
     /// The address cannot be listened at.
     #[error("the address cannot be listened at{0}")]
     Listen(Cause),
+    /// The file of the log cannot be opened or made.
+    #[error("the log's file cannot be opened{0}")]
+    Log(Cause),
+    /// Another process has the file of the log.
+    #[error("another server has the log's file")]
+    LogInUse,
+    /// The file of the log is that of the disk, maybe under another name.
+    #[error("the log's file is the disk's file")]
+    LogIsDisk,
+    /// The file of the log has bytes, and does not begin as a log does.
+    #[error("the log's file holds something else than a log")]
+    NotLog,
     /// There was no memory.
     #[error("out of memory")]
     NoMemory,

@@ -55,13 +55,15 @@ where
     requires uncalled { pass.mine ≡ [] }
     requires whole { pass.parts ≡ all_parts }
     requires some { 0 < length workers.old }
-    ensures { Service T.terms T.stands T.legal node pass result.value result.calls result.own
+    ensures service { Service T.terms T.stands T.legal node pass result.value result.calls result.own
         (λ count all. (length all ≡ length workers.old) × ((i : ℕ) (d : Worker T L N K T.Terms L.Conn) → i < length workers.old →
         let a = slice_index_or workers.old i d in let b = slice_index_or workers.new i d in
         Shift L.Conn.sides config.now node pass (draw_at draw_key i)
         (work (L.told a.door) (L.faults a.door) (N.exchanges a.dial) (N.faults a.dial) (N.delivers a.dial) a.draw (K.given a.clock) a.pass a.end)
         (work (L.told b.door) (L.faults b.door) (N.exchanges b.dial) (N.faults b.dial) (N.delivers b.dial) b.draw (K.given b.clock) b.pass b.end)
         (slice_index_or all i []) count)) }
+    ensures ended { result.rounds ≡ Rounds.Ended → (i : ℕ) (d : Worker T L N K T.Terms L.Conn) → i < length workers.new → (slice_index_or workers.new i d).end ≡ Rounds.Ended }
+    ensures fault { result.rounds ≡ Rounds.DoorFault → (i : ℕ) × (i < length workers.new) × ((d : Worker T L N K T.Terms L.Conn) → (slice_index_or workers.new i d).end ≡ Rounds.DoorFault) }
 {
     deal(&node, &mut pass, workers, draw_key);
     let rounds = serve_all(rt, alloc, config, &node, workers);
@@ -111,6 +113,9 @@ where
         (work (L.told a.door) (L.faults a.door) (N.exchanges a.dial) (N.faults a.dial) (N.delivers a.dial) a.draw (K.given a.clock) a.pass a.end)
         (work (L.told b.door) (L.faults b.door) (N.exchanges b.dial) (N.faults b.dial) (N.delivers b.dial) b.draw (K.given b.clock) b.pass b.end)
         (slice_index_or all i []) count))) }
+    // How the workers ended: a fault of a door where one of them had it.
+    ensures ended { IfOk result (λ f. f.rounds ≡ Rounds.Ended → (i : ℕ) (d : Worker T L N K T.Terms L.Conn) → i < length workers.new → (slice_index_or workers.new i d).end ≡ Rounds.Ended) }
+    ensures fault { IfOk result (λ f. f.rounds ≡ Rounds.DoorFault → (i : ℕ) × (i < length workers.new) × ((d : Worker T L N K T.Terms L.Conn) → (slice_index_or workers.new i d).end ≡ Rounds.DoorFault)) }
     ensures same { IfErr result (λ v. v ≡ value) }
     ensures unasked { IfErr result (λ _. workers.new ≡ workers.old) }
 {

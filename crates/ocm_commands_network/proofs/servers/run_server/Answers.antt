@@ -1,5 +1,9 @@
 use Rattle.ocm_commands_network.proofs.Ordered.{orders-have-workers}
+use Rattle.ocm_commands_network.proofs.Statuses.{not-unwritten}
 use Rattle.ocm_commands_network.proofs.servers.run_server.Goals as goal
 
 pub run_orders-requires-clause-workers : goal.run_orders-requires-clause-workers
 run_orders-requires-clause-workers g c κs within = orders-have-workers _ c.in-Ok.orders c.in-Ok.ensures
+
+pub returns-in-Ok-clause-part_of_usage : goal.returns-in-Ok-clause-part_of_usage
+returns-in-Ok-clause-part_of_usage g c = λ failed. absurd (not-unwritten c.run_orders.result c.run_orders.ensures failed)

@@ -15,7 +15,7 @@ pub returns-in-Ok : goal.returns-in-Ok
 returns-in-Ok c =
     let other : IsBlankForAny c.args.bytes.now → ⊥ = search rules in
     made-or-refused c.args.bytes.now c.in-Ok.front.header c.in-Ok.front.form (records_from 0 c.in-Ok.front.place c.in-Ok.front.records.now) c.compact_front.result other c.in-Ok.ensures.reads
-    c.compact_front.ensures.made c.compact_front.ensures.refused
+    c.compact_front.ensures.made c.compact_front.ensures.refused c.compact_front.ensures.differs
 
 pub returns-in-Err : goal.returns-in-Err
 returns-in-Err c =

@@ -1,4 +1,4 @@
-use Rattle.std.proofs.Common.{◌≡◌, List, sym, ap, ◌∙◌}
+use Rattle.std.proofs.Common.{List, sym, ap, ◌∙◌}
 use Rattle.ocm_entry.specs.declared.rows.Node.{Node}
 use Rattle.ocm_rules.specs.State.{node_at}
 use Rattle.ocm_compact.proofs.Alike.{alike-from}

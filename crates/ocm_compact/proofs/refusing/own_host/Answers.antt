@@ -1,10 +1,8 @@
-use Rattle.std.proofs.Common.{false, ◌&&◌, sym, ◌∙◌, ap, subst, List, ℕ, ◌≡◌, true, Option, Some, None}
-use Rattle.std.specs.Prelude.{if◌then◌else◌}
+use Rattle.std.proofs.Common.{false, ◌∙◌, ap, List, ℕ, ◌≡◌, true}
 use Rattle.std.specs.Str.{is_utf8}
 use Rattle.std.proofs.lemmas.Bool.{false_from_ne_true}
 use Rattle.std.proofs.lemmas.Str.{is_utf8-from_IsUtf8, IsUtf8-from_is_utf8}
 use Rattle.ocm_types.specs.Hosts.{canonical_host_of}
-use Rattle.ocm_journal_audit.specs.Audits.{is_own_host}
 use Rattle.ocm_compact.proofs.Labels.{IsHostOf, foreign-host, own-host}
 use Rattle.ocm_compact.proofs.Taking.{if-ok-of}
 use Rattle.ocm_compact.proofs.refusing.own_host.Goals as goal

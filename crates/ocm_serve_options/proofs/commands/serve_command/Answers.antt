@@ -32,6 +32,9 @@ a7 = with_rule a6 (optional (codes "key-file") (codes "/dev/urandom"))
 abbrev a8 : App
 a8 = with_rule a7 (optional (codes "connections") (codes "0"))
 
+abbrev a9 : App
+a9 = with_rule a8 (option (codes "log"))
+
 pub returns : goal.returns
 returns c =
     let e0 : app_of c.disable_help_flag-bare.result ≡ a0 = ap app_of_fields c.disable_help_flag-bare.ensures ∙ ap (on_top (λ s. record s { disable_help_flag = true })) c.new.ensures.app in
@@ -42,4 +45,5 @@ returns c =
     let e5 : app_of c.in_ok-c5.c5 ≡ a5 = c.in_ok-c5.ensures.shape c.option_with-listen.ensures.local ∙ ap₂ with_rule e4 c.option_with-listen.ensures.rule in
     let e6 : app_of c.in_ok-c6.c6 ≡ a6 = c.in_ok-c6.ensures.shape c.option_with-workers.ensures.local ∙ ap₂ with_rule e5 c.option_with-workers.ensures.rule in
     let e7 : app_of c.in_ok-c7.c7 ≡ a7 = c.in_ok-c7.ensures.shape c.option_with-key_file.ensures.local ∙ ap₂ with_rule e6 c.option_with-key_file.ensures.rule in
-    IfOk-weaker c.arg-8.result _ _ (λ r h. h.shape c.option_with-connections.ensures.local ∙ ap₂ with_rule e7 c.option_with-connections.ensures.rule) c.arg-8.ensures
+    let e8 : app_of c.in_ok-c8.c8 ≡ a8 = c.in_ok-c8.ensures.shape c.option_with-connections.ensures.local ∙ ap₂ with_rule e7 c.option_with-connections.ensures.rule in
+    IfOk-weaker c.arg-9.result _ _ (λ r h. h.shape c.free_option-log.ensures.local ∙ ap₂ with_rule e8 c.free_option-log.ensures.rule) c.arg-9.ensures

@@ -9,8 +9,8 @@ use Rattle.ocm_server.specs.declared.workers.Worker.{Worker}
 use Rattle.ocm_server.proofs.Serving.{order_of, orders, same_parts, service, shift}
 use Rattle.ocm_server.proofs.objects.serve_through.Goals as goal
 
-pub returns : goal.returns
-returns g c =
+pub returns-clause-service : goal.returns-clause-service
+returns-clause-service g c =
     let W : Type 0 = Worker g.row.T.Denot g.row.L.Denot g.row.N.Denot g.row.K.Denot g.row.T-Terms.Denot g.row.L-Conn.Denot in
     let view : W → Work g.row.L-Conn.Denot g.row.T-Terms.Denot = λ w. work (g.L.Door.told w.door) (g.L.Door.faults w.door) (g.N.Dial.exchanges w.dial) (g.N.Dial.faults w.dial) (g.N.Dial.delivers w.dial) w.draw (g.K.Clock.given w.clock) w.pass w.end in
     let mine : W → List Call = λ w. mine_of w.pass in
@@ -44,3 +44,17 @@ gather-requires-clause-one g c = λ i d below.
     let b = c.serve_all-rounds.auto.workers in
     same_parts g.L.Conn.Conn.sides c.args.config.now c.args.node (view (get_or c.deal.new.workers i d)) (view (get_or c.serve_all-rounds.new.workers i d)) (c.serve_all-rounds.ensures.each i d (omega (arith, below, b)))
     ∙ ap (λ (w : W). parts_of w.pass) (c.deal.ensures.dealt i d (omega (arith, below, a, b)))
+
+pub returns-clause-ended : goal.returns-clause-ended
+returns-clause-ended g c = λ is i d below.
+    let W : Type 0 = Worker g.row.T.Denot g.row.L.Denot g.row.N.Denot g.row.K.Denot g.row.T-Terms.Denot g.row.L-Conn.Denot in
+    let a = c.gather.auto.workers in
+    let within : i < length c.serve_all-rounds.new.workers = omega (arith, below, a) in
+    ap (λ (w : W). w.end) (c.gather.ensures.taken i d within) ∙ c.serve_all-rounds.ensures.ended is i d within
+
+pub returns-clause-fault : goal.returns-clause-fault
+returns-clause-fault g c = λ is.
+    let W : Type 0 = Worker g.row.T.Denot g.row.L.Denot g.row.N.Denot g.row.K.Denot g.row.T-Terms.Denot g.row.L-Conn.Denot in
+    let a = c.gather.auto.workers in
+    let one = c.serve_all-rounds.ensures.fault is in
+    (one.0, omega (arith, one.1, a), λ d. ap (λ (w : W). w.end) (c.gather.ensures.taken one.0 d one.1) ∙ one.2 d)

@@ -1,4 +1,4 @@
-use Rattle.std.proofs.Common.{◌≡◌, true, false, sym, ap, ◌∙◌, Ok}
+use Rattle.std.proofs.Common.{true, false, sym, ap, ◌∙◌, Ok}
 use Rattle.ocm_compact.proofs.Going.{takes-ask}
 use Rattle.ocm_history_records.proofs.Asking.{spelled-proper}
 use Rattle.ocm_compact.proofs.replays.Replay.take.Goals as goal

@@ -1,4 +1,4 @@
-use Rattle.std.proofs.Common.{rules, true, false, refl, ◌∙◌, subst, Some, None, Ok}
+use Rattle.std.proofs.Common.{rules, refl, ◌∙◌, subst, Some, None}
 use Rattle.std.proofs.lemmas.Result.{err_from_is_err_and}
 use Rattle.ocm_journal_image.specs.Reading.{FirstIs, records_from}
 use Rattle.ocm_law_sessions.specs.Readings.{goes_on}

@@ -1,4 +1,4 @@
-use Rattle.std.proofs.Common.{◌≡◌, ◌+◌, length, []}
+use Rattle.std.proofs.Common.{◌≡◌, ◌+◌, length}
 use Rattle.ocm_journal_image.specs.Reading.{records_from}
 use Rattle.ocm_compact.specs.Replays.{home_of}
 use Rattle.ocm_compact.proofs.Going.{ComesFrom}

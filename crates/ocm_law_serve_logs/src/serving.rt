@@ -1,0 +1,68 @@
+//! A server that runs with a log.
+ghost use Rattle.std.specs.Prelude.{◌≡◌, ◌<◌, ◌^◌, [], ℕ, length, slice_index_or, IfSome, IsTrue};
+ghost use Rattle.ocm_limits.specs.Limits.{served_disk_bytes};
+ghost use Rattle.ocm_journal.specs.Openings.{new_area};
+ghost use Rattle.ocm_journal_audit.specs.Audits.{is_own_host};
+ghost use Rattle.ocm_server.specs.Objects.{Shift, draw_at};
+ghost use Rattle.ocm_server.specs.Visits.{work};
+ghost use Rattle.ocm_serve_log.specs.Logs.{IsLogOf};
+ghost use Rattle.ocm_serve_store.specs.Runs.{HasServed, Ran};
+ghost use Rattle.ocm_store.specs.Stores.{terms_of};
+ghost use Rattle.ocm_law_serve_logs.specs.ServedLogs.{HasTrueLog};
+
+use ocm_base::Clock;
+use ocm_disk::Disk;
+use ocm_pump::Dial;
+use ocm_serve_log::{LogSink, LoggedRun, LoggedStore, serve_logged};
+use ocm_serve_options::Plan;
+use ocm_server::{Door, Worker};
+use ocm_types::Host;
+use ocm_types::laws::host_reads_its_text;
+use std::alloc::Global;
+use std::sync::Wait;
+use std::thread::Threads;
+
+/// Serves as `serve_logged` does. What it wrote to its log is true of its journal: cut at any line's end, by the disk that
+/// came back; all of it where no line was left out, and then it has the line of each read; and the lines of the calls before
+/// any crash, by what that crash left.
+pub fn serve_logged_writes_what_is_true<
+    D: Disk + Send,
+    L: Door + Send,
+    N: Dial + Send,
+    C: Clock + Send,
+    K: LogSink + Send,
+    R: Threads + Wait + Sync,
+>(
+    rt: &R,
+    alloc: Global,
+    plan: &Plan,
+    workers: &mut [Worker<LoggedStore<D, K>, L, N, C>],
+    disk: D,
+    sink: K,
+    draw_key: [u8; 32],
+) -> LoggedRun<D, K>
+where
+    L::Conn: Send,
+    requires some { 0 < length workers.old }
+    requires fresh { IfSome (K.taken sink) (λ held. held ≡ []) }
+    ensures { (calls own : ℕ) → HasServed result.served calls own → (run : Ran ⟦<D as Disk>⟧ plan.now (new_area served_disk_bytes) (2 ^ 63) disk result.disk calls own
+        (λ config gate first count all. (length all ≡ length workers.old) × ((i : ℕ) (d : _) → i < length workers.old →
+        let a = slice_index_or workers.old i d in let b = slice_index_or workers.new i d in
+        Shift L.Conn.sides config gate first (draw_at draw_key i)
+        (work (L.told a.door) (L.faults a.door) (N.exchanges a.dial) (N.faults a.dial) (N.delivers a.dial) a.draw (C.given a.clock) a.pass a.end)
+        (work (L.told b.door) (L.faults b.door) (N.exchanges b.dial) (N.faults b.dial) (N.delivers b.dial) b.draw (C.given b.clock) b.pass b.end)
+        (slice_index_or all i []) count)))
+        × IsLogOf (K.taken result.sink) (K.faults result.sink) result.left_out result.out_of_memory plan.now.host run.served.first.base run.served.service.history
+        × HasTrueLog ⟦<D as Disk>⟧ plan.now.host result.disk (terms_of run.store) run.served.first.base run.served.service.history (K.taken result.sink) result.left_out }
+{
+    host_labels_its_journal(&plan.host);
+    serve_logged(rt, alloc, plan, workers, disk, sink, draw_key)
+}
+
+/// A host's text is the label of a journal that an audit takes for one.
+fn host_labels_its_journal(host: &Host)
+    ensures { IsTrue (is_own_host host.now) }
+{
+    host_reads_its_text(host);
+    let _text = host.as_str();
+}

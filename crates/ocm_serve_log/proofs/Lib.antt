@@ -1,0 +1,4 @@
+mod Holding
+mod Texts
+mod Told
+pub mod TrueLines
