@@ -71,7 +71,7 @@ fn run<
 
     // `dav`
     ensures dav { AskRemote (texts words.now) → (end : End) × (result ≡ status_of end)
-        × RemoteEnds (texts words.now) end (K.taken sink.old) (K.taken sink.new) (K.faults sink.old) (K.faults sink.new)
+        × RemoteEnds (texts words.now) end (S.left source.old) (S.left source.new) (K.taken sink.old) (K.taken sink.new) (K.faults sink.old) (K.faults sink.new)
         × (end ≡ asked.ReadFault → Rose (S.faults source.old) (S.faults source.new)) }
     ensures dav_unread { AskRemote (texts words.now) → (AsksPut (texts words.now) → ⊥) → source.new ≡ source.old }
 
