@@ -173,6 +173,7 @@ impl History {
         ensures home { home_of self.new ≡ home_of self.old }
         ensures taken { IfOk result (λ taken. (g : List Entry) → IsOf self.old g → taken ≡ would_change (home_of self.old) g (Ask.Tick clock)) }
         ensures goes_on { (g : List Entry) → IsOf self.old g → result ≡ Ok true → IsOf self.new (heard (home_of self.old) g (Ask.Tick clock) ∷ g) }
+        ensures stays { (g : List Entry) → IsOf self.old g → result ≢ Ok true → IsOf self.new g }
     {
         let tick = Ask::Tick { clock };
         let taken = self.take(&tick);
