@@ -1,9 +1,10 @@
 //! Files that are open, by their descriptors.
-ghost use Rattle.std.specs.Prelude.{◌≤◌, IfOk};
+ghost use Rattle.std.specs.Prelude.{◌<◌, ◌≤◌, IfOk, length};
 
-use libc::{LOCK_EX, LOCK_NB, O_APPEND, O_CREAT, O_EXCL, O_RDWR, SEEK_END, SEEK_SET};
+use libc::{LOCK_EX, LOCK_NB, O_APPEND, O_CREAT, O_EXCL, O_RDWR, SEEK_END};
+use ocm_base::Failed;
 use ocm_net_waits::{last_error, owned};
-use std::io::{self, ErrorKind, Read, Write};
+use std::io::{self, ErrorKind};
 use std::os::fd::{AsRawFd, OwnedFd};
 
 /// Who may open a file that was made: its owner alone, since its lines hold secrets.
@@ -56,11 +57,29 @@ impl Descriptor {
     }
 
     /// Fills a piece with what stands at a place. Where the file ends before that fails.
-    pub(crate) fn read_at(&mut self, piece: &mut [u8], place: u64) -> io::Result<()> {
-        if libc::lseek(self.fd.as_raw_fd(), place.cast_signed(), SEEK_SET) < 0 {
-            return Err(last_error());
+    pub(crate) fn read_at(&self, piece: &mut [u8], place: u64) -> io::Result<()> {
+        let count = libc::pread(self.fd.as_raw_fd(), piece, place.cast_signed());
+        if moved(count, piece.len())? < piece.len() {
+            return Err(io::Error::from(ErrorKind::UnexpectedEof));
         }
-        self.read_exact(piece)
+        Ok(())
+    }
+
+    /// Writes some of a piece behind its end. A write that a signal interrupted is tried again, and one that takes no byte has
+    /// failed.
+    pub(crate) fn add(&self, piece: &[u8]) -> Result<usize, Failed>
+        ensures some { IfOk result (λ n. 0 < n) }
+        ensures within { IfOk result (λ n. n ≤ length piece.now) }
+    {
+        for _ in 0..u64::MAX {
+            let count = libc::write(self.fd.as_raw_fd(), piece);
+            match moved(count, piece.len()) {
+                Ok(n) if 0 < n => return Ok(n),
+                Err(error) if error.kind() == ErrorKind::Interrupted => {}
+                _ => break,
+            }
+        }
+        Err(Failed)
     }
 }
 
@@ -85,23 +104,5 @@ fn moved(count: isize, len: usize) -> io::Result<usize>
     match usize::try_from(count) {
         Ok(count) => Ok(count.min(len)),
         Err(_) => Err(last_error()),
-    }
-}
-
-impl Read for Descriptor {
-    fn read(&mut self, buf: &mut [u8]) -> io::Result<usize> {
-        let count = libc::read(self.fd.as_raw_fd(), buf);
-        moved(count, buf.len())
-    }
-}
-
-impl Write for Descriptor {
-    fn write(&mut self, buf: &[u8]) -> io::Result<usize> {
-        let count = libc::write(self.fd.as_raw_fd(), buf);
-        moved(count, buf.len())
-    }
-
-    fn flush(&mut self) -> io::Result<()> {
-        Ok(())
     }
 }

@@ -3,8 +3,8 @@ ghost use Rattle.std.specs.Prelude.{◌≡◌, ◌<◌, None, IfOk, OnErr};
 
 use crate::descriptors::Descriptor;
 use crate::faults::LogFault;
-use crate::lines::{begins_as_log, cut_to_lines};
-use ocm_base::{Failed, Sink, StdSink, Text};
+use crate::lines::{begins_as_log, cut_to_lines, end_alike};
+use ocm_base::{Failed, Sink, Text};
 use std::alloc::Global;
 use std::io::ErrorKind;
 use std::rt::Files;
@@ -13,7 +13,7 @@ use std::rt::Files;
 /// while it is open. It tells nothing of what it took.
 pub struct LogFile {
     path: Text,
-    sink: StdSink<Descriptor>,
+    file: Descriptor,
     faults: u64,
 }
 
@@ -21,7 +21,7 @@ impl Drop for LogFile {
     fn drop(self) {
         let LogFile {
             path: _,
-            sink: _,
+            file: _,
             faults: _,
         } = self;
     }
@@ -39,7 +39,7 @@ impl LogFile {
         match open_lines(path) {
             Ok(file) => Ok(LogFile {
                 path: name,
-                sink: StdSink::new(file),
+                file,
                 faults: 0,
             }),
             Err(fault) => {
@@ -50,8 +50,10 @@ impl LogFile {
     }
 
     /// Goes on in the file at the path where that is another one, since this one was moved away: it is opened, or made where
-    /// there is none, as [`LogFile::open`] does. What is locked there is taken for this file. Where another can't be opened
-    /// it goes on in this one. Behind a write that failed no line follows, and no file is opened.
+    /// there is none, as [`LogFile::open`] does. Where another can't be opened, also since another has it locked, it goes on in
+    /// this one. This one is known by its lock, its length and its last bytes: of another file that is locked and has the same,
+    /// as an empty one beside an empty one, nothing is told before one of the two grows. Behind a write that failed no line
+    /// follows, and no file is opened.
     pub fn renew(&mut self) -> Result<(), LogFault>
         ensures faults { ⟦<LogFile as Sink>⟧.faults self.new ≡ ⟦<LogFile as Sink>⟧.faults self.old }
         ensures failed { 0 < ⟦<LogFile as Sink>⟧.faults self.old → self.new ≡ self.old }
@@ -60,21 +62,26 @@ impl LogFile {
         if 0 < self.faults {
             return Ok(());
         }
-        match open_lines(self.path.as_str()) {
-            Ok(file) => {
-                self.sink = StdSink::new(file);
+        let found = open_file(self.path.as_str())?;
+        match take(&found) {
+            Ok(()) => {
+                self.file = found;
                 Ok(())
             }
-            Err(LogFault::InUse) => Ok(()),
-            Err(fault) => Err(fault),
+            Err(fault) => {
+                let is_own = fault == LogFault::InUse
+                    && end_alike(&self.file, &found).unwrap_or(false);
+                drop(found);
+                if is_own { Ok(()) } else { Err(fault) }
+            }
         }
     }
 }
 
 /// Opens the file at a path to write behind its last line end, and locks it.
 fn open_lines(path: &str) -> Result<Descriptor, LogFault> {
-    let mut file = open_file(path)?;
-    match take(&mut file) {
+    let file = open_file(path)?;
+    match take(&file) {
         Ok(()) => Ok(file),
         Err(fault) => {
             drop(file);
@@ -104,7 +111,7 @@ fn is_link(path: &str) -> bool {
 }
 
 /// Locks a file for a log, and cuts it behind its last line end.
-fn take(file: &mut Descriptor) -> Result<(), LogFault> {
+fn take(file: &Descriptor) -> Result<(), LogFault> {
     file.lock()?;
     let Ok(len) = file.len() else {
         return Err(LogFault::NoFile);
@@ -125,7 +132,7 @@ impl Sink for LogFile {
     ghost faults = { λ file. file.faults };
 
     fn write(&mut self, piece: &[u8]) -> Result<usize, Failed> {
-        match self.sink.write(piece) {
+        match self.file.add(piece) {
             Ok(n) => Ok(n),
             Err(Failed) => {
                 self.faults = self.faults.saturating_add(1);

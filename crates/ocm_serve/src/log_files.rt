@@ -15,8 +15,10 @@ use std::rt::Files;
 pub(crate) struct ToldLog<'a, R: Eprint> {
     rt: &'a R,
     file: LogFile,
-    /// Whether it was told that what stands at the path can't be opened.
-    is_stuck: bool,
+    /// Why what stands at the path can't be opened, as it was told last.
+    stuck: Option<LogFault>,
+    /// Whether a write failed.
+    has_failed: bool,
 }
 
 impl<R: Eprint> Drop for ToldLog<'_, R> {
@@ -24,7 +26,8 @@ impl<R: Eprint> Drop for ToldLog<'_, R> {
         let ToldLog {
             rt: _,
             file: _,
-            is_stuck: _,
+            stuck: _,
+            has_failed: _,
         } = self;
     }
 }
@@ -45,7 +48,8 @@ pub(crate) fn open_log<'a, R: Files<File = File> + Eprint>(
         Ok(file) => Ok(ToldLog {
             rt,
             file,
-            is_stuck: false,
+            stuck: None,
+            has_failed: false,
         }),
         Err(fault) => Err(open_fault(fault)),
     }
@@ -99,16 +103,23 @@ impl<'a, R: Eprint> Sink for ToldLog<'a, R> {
     ghost faults = { λ log. ⟦<LogFile as Sink>⟧.faults log.file };
 
     fn write(&mut self, piece: &[u8]) -> Result<usize, Failed> {
-        self.file.write(piece)
+        match self.file.write(piece) {
+            Ok(n) => Ok(n),
+            Err(Failed) => {
+                self.has_failed = true;
+                Err(Failed)
+            }
+        }
     }
 }
 
 impl<'a, R: Eprint> LogSink for ToldLog<'a, R> {
-    /// Goes on in the file at the path, where that is another one. Where it can't be opened that is told once.
+    /// Goes on in the file at the path, where that is another one. Where it can't be opened that is told, once for each cause,
+    /// and so is that it was opened again.
     fn turn(&mut self) {
         match self.file.renew() {
-            Ok(()) => self.is_stuck = false,
-            Err(fault) => self.tell_stuck(open_fault(fault)),
+            Ok(()) => self.tell_open(),
+            Err(fault) => self.tell_stuck(fault),
         }
     }
 
@@ -120,14 +131,33 @@ impl<'a, R: Eprint> LogSink for ToldLog<'a, R> {
 }
 
 impl<'a, R: Eprint> ToldLog<'a, R> {
-    /// Tells once that what stands at the path can't be opened.
-    fn tell_stuck(&mut self, fault: OpenFault)
+    /// Tells why what stands at the path can't be opened, where that was not told last.
+    fn tell_stuck(&mut self, fault: LogFault)
         ensures { self.new.file ≡ self.old.file }
     {
-        if self.is_stuck {
+        if self.was_told(fault) {
             return;
         }
-        self.is_stuck = true;
+        self.stuck = Some(fault);
+        let fault = open_fault(fault);
         let _ = eprintln!(self.rt; "ocmd: {fault}; the log goes on in the file that is open");
+    }
+
+    /// Whether it was told last that what stands at the path can't be opened for this cause.
+    fn was_told(&self, fault: LogFault) -> bool {
+        match self.stuck {
+            Some(told) => told == fault,
+            None => false,
+        }
+    }
+
+    /// Tells that lines go to the file at the path again, where it was told that they do not.
+    fn tell_open(&mut self)
+        ensures { self.new.file ≡ self.old.file }
+    {
+        if self.stuck.is_some() && !self.has_failed {
+            let _ = eprintln!(self.rt; "ocmd: the log goes on in the file at its path");
+        }
+        self.stuck = None;
     }
 }

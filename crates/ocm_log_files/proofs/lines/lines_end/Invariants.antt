@@ -1,4 +1,3 @@
-use Rattle.std.proofs.Common.{ℕ}
 use Rattle.ocm_log_files.proofs.lines.lines_end.Given as goal
 
 -- each piece is read ahead of the one before
