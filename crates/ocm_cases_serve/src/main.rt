@@ -6,8 +6,10 @@
 //! | `let NAME TEXT` | no case: from here on the word NAME stands for the text |
 //! | `WORDS; DISK; WORKER; WORKER` | a run by the plan of these words, from its disk to its disk, with these workers |
 //! | `each source COUNT; PAGES; WORDS; DISK; WORKER` | a run for each number from 1 to COUNT, in which the call of this number fails at the source of the first connection; with `sink`, at its sink |
+//! | `log CLOCKS PIECE FAILS ROOM; WORDS; DISK; WORKER; WORKER` | a run with a log, whose workers' clocks give the values `CLOCKS`, `,` between two |
 //! | `talk DISK; LIMIT CLOCKS PIECE FAILS ROOM; BYTES` | a connection that is served alone, at a turnstile that ends at `LIMIT` calls, by a clock that gives the values `CLOCKS`, `,` between two |
 //! | `rest DISK; LIMIT CLOCKS PIECE FAILS ROOM; BYTES` | the same of a connection that rests where nothing is left of its bytes |
+//! | `noted DISK; LIMIT CLOCKS PIECE FAILS ROOM; BYTES` | the same as `talk`, of a connection that notes, for contracts alone, the moment behind the newest call with each page |
 //!
 //! The words are `serve --host HOST --disk DISK --admin ADMIN`, and other options behind them, which the program's own start
 //! reads. A disk is `- FUSE` without bytes, or `DIGITS*COUNT*DIGITS FUSE` with so many zeros between the two. After `FUSE`
@@ -26,6 +28,11 @@
 //! how many entries the disk has that came back. Where each call fails in turn, runs that came to the same are told
 //! together, and of the first connection how many of the pages were written.
 //!
+//! The sink of a log takes at most `PIECE` bytes a call and `ROOM` in all, and fails at the call of the number `FAILS`. Told are
+//! also how many lines were left out, how often the sink was told that another moment came, asked to take bytes, and told
+//! that lines were left out, and what it took; of more than 500 bytes, how many they are and the last line. The first
+//! connection of each worker gives and takes as much as there is.
+//!
 //! In a talk the connection gives at most `PIECE` bytes a read, fails at the read of the number `FAILS`, and takes `ROOM`
 //! bytes, at most 7 a write. The key of the administrator is 32 letters `f`. Told are how many calls were made, the ending
 //! and what was written; of more than 2,000 bytes, how many they are and the last page.
@@ -41,21 +48,26 @@ mod doors;
 mod ends;
 mod faults;
 mod gates;
+mod logs;
 mod manners;
 mod names;
+mod notes;
+mod noting;
 mod pages;
 mod plans;
 mod runs;
 mod series;
+mod sinks;
 mod stores;
 mod talks;
 mod workers;
 
 use crate::faults::faults_told;
 use crate::gates::Gates;
+use crate::logs::logged_told;
 use crate::names::{add_name, spelled};
 use crate::runs::run_told;
-use crate::talks::{rest_told, talk_told};
+use crate::talks::{noted_told, rest_told, talk_told};
 use ocm_cases_rows::{cut, line_of, tell_lines};
 use std::alloc::Global;
 use std::io;
@@ -89,8 +101,10 @@ fn case_told<R: Threads + Wait + Sync>(rt: &R, alloc: Global, line: &str) -> Opt
     let (kind, row) = cut(line, " ");
     let told = match kind {
         "each" => faults_told(rt, alloc, &gates, row),
+        "log" => line_of(logged_told(rt, alloc, &gates, row)),
         "talk" => line_of(talk_told(rt, alloc, &gates, row)),
         "rest" => line_of(rest_told(rt, alloc, &gates, row)),
+        "noted" => line_of(noted_told(rt, alloc, &gates, row)),
         _ => line_of(run_told(rt, alloc, &gates, line)),
     };
     drop(gates);

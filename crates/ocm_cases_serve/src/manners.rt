@@ -24,6 +24,17 @@ impl Manner {
         }
     }
 
+    /// Gives and takes 4,096 bytes a call, takes 1,000,000 in all, and does not fail.
+    pub fn ready() -> Manner {
+        Manner {
+            gives: 4_096,
+            takes: 4_096,
+            source: 0,
+            sink: 0,
+            room: 1_000_000,
+        }
+    }
+
     /// Fails at the call of this number at its sink, where that is the kind, and else at its source.
     pub fn failing_at(kind: &str, number: u64) -> Manner {
         match kind {

@@ -11,7 +11,7 @@ use crate::workers::{Hand, add_worked, add_workers};
 use ocm_cases_rows::{add, cut};
 use ocm_disk::GateDisk;
 use ocm_serve_options::Plan;
-use ocm_serve_store::serve;
+use ocm_serve_store::{Followed, serve};
 use ocm_server::Served;
 use std::alloc::Global;
 use std::sync::Wait;
@@ -43,7 +43,7 @@ pub fn planned_told<R: Threads + Wait + Sync>(
 ) -> Option<String> {
     let (disk, rows) = cut(row, "; ");
     let mut workers = Vec::new(alloc);
-    let added = add_workers(alloc, gates, &mut workers, rows, manner);
+    let added = add_workers(alloc, gates, &mut workers, rows, manner, "0");
     let told = match added.and(disk_of(alloc, gates, disk)) {
         Some(disk) => workers_told(rt, alloc, plan, &mut workers, disk, pages),
         None => None,
@@ -56,7 +56,7 @@ fn workers_told<R: Threads + Wait + Sync>(
     rt: &R,
     alloc: Global,
     plan: &Plan,
-    workers: &mut Vec<Hand>,
+    workers: &mut Vec<Hand<Followed<GateDisk>>>,
     disk: GateDisk,
     pages: &str,
 ) -> Option<String> {
@@ -71,7 +71,7 @@ fn workers_told<R: Threads + Wait + Sync>(
 fn ended_told(
     alloc: Global,
     served: Served,
-    workers: &[Hand],
+    workers: &[Hand<Followed<GateDisk>>],
     disk: GateDisk,
     pages: &str,
 ) -> Option<String> {

@@ -8,12 +8,14 @@ use crate::conns::{OPEN, conn_of, rest_conn_of};
 use crate::disks::disk_of;
 use crate::gates::Gates;
 use crate::manners::Manner;
+use crate::noting::Noting;
 use crate::stores::{host, loaded};
 use ocm_base::MemClock;
 use ocm_cases_rows::{clock_of, cut};
 use ocm_dav::Config;
 use ocm_disk::{Disk, GateDisk};
-use ocm_server::{Conn, Draw, Ended, serve_conn};
+use ocm_serve_store::Followed;
+use ocm_server::{Conn, Draw, Ended, GateConn, serve_conn};
 use ocm_store::Store;
 use ocm_turn::Turnstile;
 use ocm_types::Secret;
@@ -59,6 +61,40 @@ pub fn rest_told<R: Wait>(rt: &R, alloc: Global, gates: &Gates, row: &str) -> Op
             drop(conn);
             told
         }
+        None => None,
+    }
+}
+
+/// The same of a connection that notes, for contracts alone, the moment behind the newest call with each page that it
+/// writes.
+pub fn noted_told<R: Wait>(rt: &R, alloc: Global, gates: &Gates, row: &str) -> Option<String> {
+    let (disk, row) = cut(row, "; ");
+    let (words, bytes) = cut(row, "; ");
+    let (limit, words) = cut(words, " ");
+    let (clocks, words) = cut(words, " ");
+    let limit = limit.parse().ok()?;
+    let conn = noting_conn_of(alloc, gates, bytes, Manner::of(words)?);
+    match conn.zip(clock_of(alloc, clocks)) {
+        Some((mut conn, mut clock)) => {
+            let store = disk_of(alloc, gates, disk);
+            let ended = talked(rt, alloc, store, limit, &mut conn, &mut clock);
+            drop(clock);
+            let told = calls_told(alloc, ended, conn.conn.sink.bytes());
+            drop(conn);
+            told
+        }
+        None => None,
+    }
+}
+
+fn noting_conn_of(
+    alloc: Global,
+    gates: &Gates,
+    bytes: &str,
+    manner: Manner,
+) -> Option<Noting<GateConn>> {
+    match conn_of(alloc, gates, OPEN, bytes, manner) {
+        Some(conn) => Noting::new(alloc, conn),
         None => None,
     }
 }
@@ -117,7 +153,7 @@ fn talked_at<R: Wait, C: Conn>(
         drop(store);
         return None;
     }
-    match Turnstile::make::<Brand>(alloc, store, limit) {
+    match Turnstile::make::<Brand>(alloc, Followed::new(store), limit) {
         Ok((node, mut pass)) => {
             let mut draw = Draw::new([0; 32], 0);
             let ended = serve_conn(rt, alloc, config, &node, &mut pass, conn, &mut draw, clock);
@@ -127,8 +163,8 @@ fn talked_at<R: Wait, C: Conn>(
             drop(node);
             Some((ended, calls))
         }
-        Err(store) => {
-            drop(store);
+        Err(followed) => {
+            drop(followed);
             None
         }
     }

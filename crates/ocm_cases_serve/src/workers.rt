@@ -4,28 +4,29 @@ use crate::doors::CaseDoor;
 use crate::ends::ends_of;
 use crate::gates::Gates;
 use crate::manners::Manner;
-use ocm_base::{List, MemClock};
-use ocm_disk::GateDisk;
+use ocm_base::MemClock;
+use ocm_cases_rows::clock_of;
 use ocm_pump::MemDial;
-use ocm_serve_store::Followed;
 use ocm_server::{Draw, GateConn, Worker};
+use ocm_turn::Dated;
 use std::alloc::Global;
 
-/// A worker in memory.
-pub type Hand = Worker<Followed<GateDisk>, CaseDoor<GateConn>, MemDial, MemClock>;
+/// A worker in memory, of an object that is served.
+pub type Hand<T> = Worker<T, CaseDoor<GateConn>, MemDial, MemClock>;
 
-/// Adds the workers of a row, `; ` between two. The first connection of each is of this manner.
-pub fn add_workers(
+/// Adds the workers of a row, `; ` between two. The first connection of each is of this manner, and the clock of each gives
+/// these values, `,` between two.
+pub fn add_workers<T: Dated + Drop>(
     alloc: Global,
     gates: &Gates,
-    workers: &mut Vec<Hand>,
+    workers: &mut Vec<Hand<T>>,
     rows: &str,
     manner: Manner,
+    clocks: &str,
 ) -> Option<()> {
     for row in rows.split("; ") {
-        match ends_of(alloc, gates, row, manner) {
-            Some((door, dial)) => {
-                let clock = MemClock::new(List::new(alloc));
+        match ends_of(alloc, gates, row, manner).zip(clock_of(alloc, clocks)) {
+            Some(((door, dial), clock)) => {
                 let worker = Worker::new(door, dial, Draw::new([0; 32], 0), clock);
                 workers.push(worker).ok()?;
             }
@@ -36,7 +37,12 @@ pub fn add_workers(
 }
 
 /// Adds what is told of each worker. The named pages are those of its first connection.
-pub fn add_worked(alloc: Global, text: &mut String, workers: &[Hand], pages: &str) -> Option<()> {
+pub fn add_worked<T: Dated>(
+    alloc: Global,
+    text: &mut String,
+    workers: &[Hand<T>],
+    pages: &str,
+) -> Option<()> {
     for worker in workers {
         add_ends(alloc, text, &worker.door, &worker.dial, pages)?;
     }

@@ -4,24 +4,24 @@ ghost use Rattle.ocm_turn.specs.Passes.{BelongsTo};
 
 use ocm_disk::MemDisk;
 use ocm_entry::{Ask, Reply};
-use ocm_store::Store;
+use ocm_serve_store::Followed;
 use ocm_turn::{Pass, Spent, Turnstile};
 use std::sync::Wait;
 
 /// A turnstile in front of a store, its first pass, and one that was split off before the first call.
 #[derive(Drop)]
 pub struct Gates {
-    turnstile: Turnstile<Store<MemDisk>>,
-    first: Pass<Store<MemDisk>>,
-    other: Pass<Store<MemDisk>>,
+    turnstile: Turnstile<Followed<MemDisk>>,
+    first: Pass<Followed<MemDisk>>,
+    other: Pass<Followed<MemDisk>>,
     ghost own: { (first.turnstile ≡ turnstile.id) × (other.turnstile ≡ turnstile.id) },
 }
 
 impl Gates {
     /// Splits a pass off.
     pub fn of(
-        turnstile: Turnstile<Store<MemDisk>>,
-        mut first: Pass<Store<MemDisk>>,
+        turnstile: Turnstile<Followed<MemDisk>>,
+        mut first: Pass<Followed<MemDisk>>,
     ) -> Option<Gates>
         requires { BelongsTo turnstile first }
     {

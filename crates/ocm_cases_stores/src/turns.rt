@@ -9,6 +9,7 @@ use crate::replies::reply_told;
 use ocm_cases_rows::{Steps, cut, steps_told};
 use ocm_disk::{Disk, MemDisk};
 use ocm_entry::Reply;
+use ocm_serve_store::Followed;
 use ocm_store::Store;
 use ocm_turn::{Spent, Turnstile};
 use ocm_types::Host;
@@ -49,10 +50,10 @@ fn turns_by<R: Wait>(
     requires limit { (1 ≤ limit) × (limit ≤ 2 ^ 63) }
     requires stands { (k : List Entry) × Stands ⟦<MemDisk as Disk>⟧ store k [] × IsLegalUnder (terms_of store) k [] }
 {
-    match Turnstile::make::<Brand>(alloc, store, limit) {
+    match Turnstile::make::<Brand>(alloc, Followed::new(store), limit) {
         Ok((turnstile, pass)) => gates_told(rt, alloc, Gates::of(turnstile, pass)?, asks),
-        Err(store) => {
-            drop(store);
+        Err(followed) => {
+            drop(followed);
             None
         }
     }

@@ -102,9 +102,9 @@ at-each P [] h = tt
 at-each P (calls ∷ all) h = (h 0 (omega arith), at-each P all (λ i below. h (suc i) (omega (arith, below))))
 
 pub shifts-settle : (C Terms : Type 0) → ShiftsSettleAnswers C Terms
-shifts-settle C Terms sides config gate first workers draws old new count all history own shifts shares whole =
+shifts-settle C Terms sides config gate first workers draws old new past all history own shifts shares whole =
     let backed = at-each (λ calls. (exchanges : List Exchange) × AreBacked exchanges (entries calls)) all (λ i below.
     let within : i < workers = omega (arith, below, shifts.0) in
-    let worker = worker-backed C Terms sides config gate first (draws i) (old i) (new i) (slice_index_or all i []) count (shifts.1 i within) in
+    let worker = worker-backed C Terms sides config gate first (draws i) (old i) (new i) (slice_index_or all i []) past (shifts.1 i within) in
     (worker.0, worker.1)) in
     histories-settle history all own shares whole backed

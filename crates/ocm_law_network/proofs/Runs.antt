@@ -48,7 +48,7 @@ runs-make-sessions {D} disk C plan area limit before after calls own sides worke
       base = base;
       history = history;
       session = subst (λ (t : Terms). IsLegalUnder t base history) ground end.legal;
-      settles = shifts-settle C (Origin D disk) sides ran.config s.gate s.first workers draws old new calls service.all history own service.each service.shares (service.all_own ∙ service.counted);
+      settles = shifts-settle C (Origin D disk) sides ran.config s.gate s.first workers draws old new _ service.all history own service.each service.shares (service.all_own ∙ service.counted);
       counted = service.counted;
       opened = λ tells. (s.is_base tells).1;
       sized = ran.area_is;
@@ -63,7 +63,7 @@ runs-make-sessions {D} disk C plan area limit before after calls own sides worke
     let worked : HasWorked history workers old new = record {
       all = service.all;
       shares = subst (Shares history service.all) (service.all_own ∙ service.counted) service.shares;
-      each = λ i below. worker-backed C (Origin D disk) sides ran.config s.gate s.first (draws i) (old i) (new i) (slice_index_or service.all i []) calls (service.each.1 i below);
+      each = λ i below. worker-backed C (Origin D disk) sides ran.config s.gate s.first (draws i) (old i) (new i) (slice_index_or service.all i []) _ (service.each.1 i below);
     } in
     (run, worked)
   where

@@ -22,7 +22,7 @@ append-none [] = refl
 append-none (x ∷ xs) = ap (λ l. x ∷ l) (append-none xs)
 
 pub worker-backed : (C Terms : Type 0) → WorkersAreBacked C Terms
-worker-backed C Terms sides config gate first draw old new calls count shift =
+worker-backed C Terms sides config gate first draw old new calls past shift =
     let w = shift.worked in
     let same_first : beginner first ≡ w.before = some-same (beginner first) w.before w.had in
     let same_last : shift.last ≡ w.after = some-same shift.last w.after w.has in

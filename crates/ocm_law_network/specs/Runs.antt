@@ -59,7 +59,7 @@ pub record HasWorked {C Terms : Type 0} (history : List Entry) (workers : ℕ) (
 abbrev pub RunsMakeSessions : {D : Type 0} → Ghosts D → (C : Type 0) → Type 0
 RunsMakeSessions {D} disk C =
     (plan : Plan) (area limit : ℕ) (before after : D) (calls own : ℕ) (sides : C → Sides) (workers : ℕ) (draws : ℕ → ChaCha) (old new : ℕ → Work C (Origin D disk))
-    → Ran disk plan area limit before after calls own (λ config gate first count all. AreShifts sides config gate first workers draws old new count all)
+    → Ran disk plan area limit before after calls own (λ config gate first past all. AreShifts sides config gate first workers draws old new past all)
     → (run : HasRun disk plan.host area before after calls) × HasWorked run.history workers old new
 
 -- What a file opens to that has the bytes of a run's disk at its end, or what a crash leaves of it then, may follow all calls of

@@ -8,7 +8,7 @@ use Rattle.ocm_entry.specs.declared.entries.Entry.{Entry}
 use Rattle.ocm_entry.specs.declared.replies.Reply.{Reply}
 use Rattle.ocm_pump.specs.declared.exchanges.Exchange.{Exchange}
 use Rattle.ocm_server_rounds.specs.Rounds.{messages_of}
-use Rattle.ocm_server.specs.Objects.{Shares, Shift}
+use Rattle.ocm_server.specs.Objects.{Past, Shares, Shift}
 use Rattle.ocm_server.specs.Visits.{Work}
 use Rattle.ocm_server_connections.specs.Sides.{Sides}
 use Rattle.ocm_dav.specs.declared.configs.Config.{Config}
@@ -43,15 +43,15 @@ HistoriesSettleAnswers =
     → AllByRecursion (λ calls. (exchanges : List Exchange) × AreBacked exchanges (entries calls)) all → SettlesAnswers history
 
 -- what `serve` tells of each of so many workers: its shift, with the calls at its place
-abbrev pub AreShifts : {C Terms : Type 0} → (C → Sides) → Config → Gate → Known Terms → ℕ → (ℕ → ChaCha) → (old new : ℕ → Work C Terms) → ℕ → List (List Call) → Type 0
-AreShifts sides config gate first workers draws old new count all =
-    (length all ≡ workers) × ((i : ℕ) → i < workers → Shift sides config gate first (draws i) (old i) (new i) (slice_index_or all i []) count)
+abbrev pub AreShifts : {C Terms : Type 0} → (C → Sides) → Config → Gate → Known Terms → ℕ → (ℕ → ChaCha) → (old new : ℕ → Work C Terms) → Past → List (List Call) → Type 0
+AreShifts sides config gate first workers draws old new past all =
+    (length all ≡ workers) × ((i : ℕ) → i < workers → Shift sides config gate first (draws i) (old i) (new i) (slice_index_or all i []) past)
 
 -- So where the workers made as many calls as there are in all, the one history settles what was answered.
 abbrev pub ShiftsSettleAnswers : (C Terms : Type 0) → Type 0
 ShiftsSettleAnswers C Terms =
-    (sides : C → Sides) (config : Config) (gate : Gate) (first : Known Terms) (workers : ℕ) (draws : ℕ → ChaCha) (old new : ℕ → Work C Terms) (count : ℕ) (all : List (List Call)) (history : List Entry) (own : ℕ)
-    → AreShifts sides config gate first workers draws old new count all → Shares history all own → own ≡ length history → SettlesAnswers history
+    (sides : C → Sides) (config : Config) (gate : Gate) (first : Known Terms) (workers : ℕ) (draws : ℕ → ChaCha) (old new : ℕ → Work C Terms) (past : Past) (all : List (List Call)) (history : List Entry) (own : ℕ)
+    → AreShifts sides config gate first workers draws old new past all → Shares history all own → own ≡ length history → SettlesAnswers history
 
 -- the messages that a history told due are values of their types
 abbrev pub AreValues : List Entry → Type 0

@@ -16,7 +16,7 @@ use Rattle.ocm_pump.specs.declared.sites.Site.{Site}
 use Rattle.ocm_dav.specs.declared.configs.Config.{Config}
 use Rattle.ocm_server_connections.specs.Sides.{Sides}
 use Rattle.ocm_server_rounds.specs.Rounds.{messages_of, settlement}
-use Rattle.ocm_server.specs.Objects.{Shares, Shift}
+use Rattle.ocm_server.specs.Objects.{Past, Shares, Shift}
 use Rattle.ocm_server.specs.Visits.{Work}
 use Rattle.ocm_turn.specs.Calls.{call, entries, entry}
 use Rattle.ocm_turn.specs.Passes.{Gate, Known}
@@ -96,8 +96,8 @@ IsBackedBy old new calls = (added : List Exchange) × AreBacked added (entries c
 -- So are those of a worker, from its first call to its last, by its dial.
 abbrev pub WorkersAreBacked : (C Terms : Type 0) → Type 0
 WorkersAreBacked C Terms =
-    (sides : C → Sides) (config : Config) (gate : Gate) (first : Known Terms) (draw : ChaCha) (old new : Work C Terms) (calls : List Call) (count : ℕ)
-    → Shift sides config gate first draw old new calls count → IsBackedBy old.exchanges new.exchanges calls
+    (sides : C → Sides) (config : Config) (gate : Gate) (first : Known Terms) (draw : ChaCha) (old new : Work C Terms) (calls : List Call) (past : Past)
+    → Shift sides config gate first draw old new calls past → IsBackedBy old.exchanges new.exchanges calls
 
 -- ---- all workers
 

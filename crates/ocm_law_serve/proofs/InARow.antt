@@ -11,6 +11,7 @@ use Rattle.ocm_rules.specs.History.{IsLegal}
 use Rattle.ocm_serve_options.specs.declared.plans.Plan.{Plan}
 use Rattle.ocm_serve_store.specs.Runs.{LeavesInRun, Ran}
 use Rattle.ocm_serve_store.specs.declared.followed.Origin.{Origin}
+use Rattle.ocm_server.specs.Objects.{Past}
 use Rattle.ocm_store.specs.Acts.{StandsLegally}
 use Rattle.ocm_store.specs.Courses.{LeavesAlong}
 use Rattle.ocm_store.specs.Opening.{OpensTo}
@@ -34,7 +35,7 @@ abbrev terms : List ℕ → ℕ → Terms
 terms host size = record { host = host; area = size }
 
 -- a server that ran made the calls of a session
-pub ran-was : {D : Type 0} (disk : Ghosts D) (plan : Plan) (area limit : ℕ) (before after : D) (calls own : ℕ) (IsEach : Config → Gate → Known (Origin D disk) → ℕ → List (List Call) → Type 0)
+pub ran-was : {D : Type 0} (disk : Ghosts D) (plan : Plan) (area limit : ℕ) (before after : D) (calls own : ℕ) (IsEach : Config → Gate → Known (Origin D disk) → Past → List (List Call) → Type 0)
     (ran : Ran disk plan area limit before after calls own IsEach) → WasRun disk plan.host area before after ran.served.first.base ran.served.service.history
 ran-was {D} disk plan area limit before after calls own IsEach ran =
     let s = ran.served in

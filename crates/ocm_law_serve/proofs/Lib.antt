@@ -1,1 +1,2 @@
-pub mod InARow
+mod InARow
+mod Written

@@ -34,6 +34,7 @@ use Rattle.ocm_rules.specs.Shares.{moment}
 use Rattle.ocm_serve_log.specs.Logs.{IsFront, IsLogOf, capped, line_of, lines_since, reads}
 use Rattle.ocm_serve_log.proofs.TrueLines.{lines-true}
 use Rattle.ocm_serve_options.specs.declared.plans.Plan.{Plan}
+use Rattle.ocm_server.specs.Objects.{Past}
 use Rattle.ocm_serve_store.specs.Runs.{Ran}
 use Rattle.ocm_serve_store.specs.declared.followed.Origin.{Origin}
 use Rattle.ocm_store.specs.Courses.{LeavesAlong}
@@ -220,7 +221,7 @@ cut-true host area k h front image own later session all is whole =
 
 -- ---- what comes back of a run
 
-module _ {D : Type 0} (disk : Ghosts D) (plan : Plan) (area limit : ℕ) (before after : D) (calls own : ℕ) (IsEach : Config → Gate → Known (Origin D disk) → ℕ → List (List Call) → Type 0)
+module _ {D : Type 0} (disk : Ghosts D) (plan : Plan) (area limit : ℕ) (before after : D) (calls own : ℕ) (IsEach : Config → Gate → Known (Origin D disk) → Past → List (List Call) → Type 0)
     (run : Ran disk plan area limit before after calls own IsEach) where
   abbrev base : List Entry
   base = run.served.first.base

@@ -33,7 +33,7 @@ FrontsAreLines = (host : List ℕ) (k h : List Entry) (front : List ℕ) → All
 
 -- A server ran by a plan, whatever is known of each of its workers. Each `Ran` is one, with nothing said of them.
 abbrev pub HasRun : {D : Type 0} → Ghosts D → Plan → ℕ → ℕ → D → D → ℕ → ℕ → Type 0
-HasRun disk plan area limit before after calls own = Ran disk plan area limit before after calls own (λ config gate first count all. ⊤)
+HasRun disk plan area limit before after calls own = Ran disk plan area limit before after calls own (λ config gate first past all. ⊤)
 
 -- What a server that ran wrote to its log, cut at any line's end, is a true log by the disk that came back, where the disk tells its bytes.
 abbrev pub LogsAreTrue : {D : Type 0} → Ghosts D → Type 0

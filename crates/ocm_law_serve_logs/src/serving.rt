@@ -46,12 +46,12 @@ where
     requires some { 0 < length workers.old }
     requires fresh { IfSome (K.taken sink) (λ held. held ≡ []) }
     ensures { (calls own : ℕ) → HasServed result.served calls own → (run : Ran ⟦<D as Disk>⟧ plan.now (new_area served_disk_bytes) (2 ^ 63) disk result.disk calls own
-        (λ config gate first count all. (length all ≡ length workers.old) × ((i : ℕ) (d : _) → i < length workers.old →
+        (λ config gate first past all. (length all ≡ length workers.old) × ((i : ℕ) (d : _) → i < length workers.old →
         let a = slice_index_or workers.old i d in let b = slice_index_or workers.new i d in
         Shift L.Conn.sides config gate first (draw_at draw_key i)
         (work (L.told a.door) (L.faults a.door) (N.exchanges a.dial) (N.faults a.dial) (N.delivers a.dial) a.draw (C.given a.clock) a.pass a.end)
         (work (L.told b.door) (L.faults b.door) (N.exchanges b.dial) (N.faults b.dial) (N.delivers b.dial) b.draw (C.given b.clock) b.pass b.end)
-        (slice_index_or all i []) count)))
+        (slice_index_or all i []) past)))
         × IsLogOf (K.taken result.sink) (K.faults result.sink) result.left_out result.out_of_memory plan.now.host run.served.first.base run.served.service.history
         × HasTrueLog ⟦<D as Disk>⟧ plan.now.host result.disk (terms_of run.store) run.served.first.base run.served.service.history (K.taken result.sink) result.left_out }
 {

@@ -6,6 +6,7 @@ use ocm_base::{Failed, Joined, Sink, Source};
 use ocm_http::{Fixed, FrameFault, Message, Reader, write_fixed};
 use ocm_net_lines::ClientLine;
 use ocm_server_connections::Conn;
+use ocm_turn::{Dated, Pass};
 use std::time;
 
 /// A connection as a worker has it: one of the system's, or one on which nothing comes and nothing can be sent. It tells
@@ -123,6 +124,7 @@ impl<'a, R: time::Clock> Conn for StreamConn<'a, R> {
     ghost sides = { λ c. record {
       left = None;
       taken = None;
+      noted = None;
       read_faults = c.faults;
       write_faults = c.faults;
     } };
@@ -135,7 +137,7 @@ impl<'a, R: time::Clock> Conn for StreamConn<'a, R> {
         self.line_rests()
     }
 
-    fn send(&mut self, piece: &Joined) -> Result<(), Failed> {
+    fn send<T: Dated>(&mut self, piece: &Joined, _pass: &Pass<T>) -> Result<(), Failed> {
         piece.write_to(self)
     }
 

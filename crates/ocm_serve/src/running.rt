@@ -80,12 +80,12 @@ where
     // The status is that of what `serve` came to, with all that is known of it.
     ensures runs { (came : Served) × (result ≡ status_of came)
         × RunsTo ⟦<D as Disk>⟧ plan.now (new_area served_disk_bytes) (2 ^ 63)
-        (λ old new config gate first count all. (length all ≡ length old) × ((i : ℕ) (d : _) → i < length old →
+        (λ old new config gate first past all. (length all ≡ length old) × ((i : ℕ) (d : _) → i < length old →
         let a = slice_index_or old i d in let b = slice_index_or new i d in
         Shift L.Conn.sides config gate first (draw_at draw_key i)
         (work (L.told a.door) (L.faults a.door) (N.exchanges a.dial) (N.faults a.dial) (N.delivers a.dial) a.draw (K.given a.clock) a.pass a.end)
         (work (L.told b.door) (L.faults b.door) (N.exchanges b.dial) (N.faults b.dial) (N.delivers b.dial) b.draw (K.given b.clock) b.pass b.end)
-        (slice_index_or all i []) count))
+        (slice_index_or all i []) past))
         (λ w. w.end) disk workers.items came }
 {
     let (served, disk) = serve(rt, alloc, plan, &mut workers, disk, draw_key);

@@ -2,7 +2,6 @@
 ghost use Rattle.std.specs.Prelude.{◌≡◌, ◌+◌, None, All, IfOk, OnOk, vec_len};
 
 use ocm_base::{Clock, StdClock};
-use ocm_entry::Object;
 use ocm_net_adapters::{NetDoor, TcpDial};
 use ocm_net_exchanges::{Delivering, Exchanges};
 use ocm_net_sockets::Serving;
@@ -11,6 +10,7 @@ use ocm_serve_options::Plan;
 use ocm_serve_system::Opening;
 use ocm_server::{Door, Worker};
 use ocm_server_connections::Draw;
+use ocm_turn::Dated;
 use std::alloc::Global;
 use std::io::Eprint;
 use std::net::{Net, TcpListener, TcpStream};
@@ -23,7 +23,7 @@ use std::{io, time};
 pub type NetWorker<'a, T, R> = Worker<T, NetDoor<'a, R>, TcpDial<'a, R>, StdClock<'a, R>>;
 
 /// Puts a worker without a pass behind others.
-fn add<T: Object, L: Door, N: Dial, K: Clock>(
+fn add<T: Dated, L: Door, N: Dial, K: Clock>(
     workers: &mut Vec<Worker<T, L, N, K>>,
     door: L,
     dial: N,
@@ -38,14 +38,14 @@ fn add<T: Object, L: Door, N: Dial, K: Clock>(
 }
 
 /// Lets workers go.
-pub(crate) fn dismiss<T: Object, L: Door, N: Dial, K: Clock>(workers: Vec<Worker<T, L, N, K>>) {
+pub(crate) fn dismiss<T: Dated, L: Door, N: Dial, K: Clock>(workers: Vec<Worker<T, L, N, K>>) {
     drop(workers);
 }
 
 /// Puts the serving worker of a number behind others, with a door of its own to what was opened.
 fn add_serving<
     'a,
-    T: Object,
+    T: Dated,
     R: Threads + Wait + time::Clock + Eprint + Net<Listener = TcpListener, Stream = TcpStream>,
 >(
     rt: &'a R,
@@ -66,7 +66,7 @@ fn add_serving<
 /// Puts the worker that delivers behind others. Its number is the one behind theirs.
 fn add_delivering<
     'a,
-    T: Object,
+    T: Dated,
     R: Threads + Wait + time::Clock + Eprint + Net<Listener = TcpListener, Stream = TcpStream>,
 >(
     rt: &'a R,
@@ -95,7 +95,7 @@ fn add_delivering<
 /// pass.
 pub fn workers_for<
     'a,
-    T: Object,
+    T: Dated,
     R: Threads + Wait + time::Clock + Eprint + Net<Listener = TcpListener, Stream = TcpStream>,
 >(rt: &'a R, alloc: Global, plan: &Plan, opening: &Opening) -> io::Result<Vec<NetWorker<'a, T, R>>>
     ensures count { IfOk result (λ workers. vec_len workers ≡ plan.now.workers + 1) }

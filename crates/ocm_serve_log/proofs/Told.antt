@@ -21,18 +21,18 @@ use Rattle.ocm_rules.specs.Shares.{moment}
 use Rattle.ocm_serve_log.specs.Logs.{Holds, IsLog, IsLogOf, line_at, line_of, line_with, lines_since, reads}
 use Rattle.ocm_serve_log.specs.Standing.{StandsLogged}
 use Rattle.ocm_serve_log.specs.declared.logs.Log.{Log}
-use Rattle.ocm_server.specs.Objects.{Begins, Service}
-use Rattle.ocm_serve_store.specs.Following.{IsLegalSince, StandsSince, origin_of}
+use Rattle.ocm_server.specs.Objects.{Begins, Past, Service}
+use Rattle.ocm_serve_store.specs.Following.{CameSince, IsLegalSince, StandsSince, origin_of}
 use Rattle.ocm_dav.specs.declared.configs.Config.{Config}
 use Rattle.ocm_disk.specs.Disk.{LeavesOnly}
 use Rattle.ocm_journal.specs.Openings.{StaysAsItOpens}
 use Rattle.ocm_serve_options.specs.declared.plans.Plan.{Plan}
-use Rattle.ocm_serve_store.proofs.Told.{run-keeps, run-leaves}
+use Rattle.ocm_serve_store.proofs.Told.{run-keeps, run-leaves, run-since}
 use Rattle.ocm_serve_store.specs.Runs.{IsOpenedTo, IsServed, Ran, config_of}
 use Rattle.ocm_store.specs.Opening.{IsOfArea}
 use Rattle.ocm_serve_store.specs.declared.followed.Followed.{Followed}
 use Rattle.ocm_serve_store.specs.declared.followed.Origin.{Origin}
-use Rattle.ocm_store.specs.Courses.{Course}
+use Rattle.ocm_store.specs.Courses.{Course, CourseAt}
 use Rattle.ocm_store.specs.Stores.{IsLegalUnder, Stands, area_of, disk_of, host_of, terms_of}
 use Rattle.ocm_store.specs.declared.stores.Store.{Store}
 use Rattle.ocm_store.specs.declared.terms.Terms.{Terms}
@@ -44,17 +44,23 @@ module _ {D T K : Type 0} (disk : Ghosts D) (followed : T → Followed D disk) (
   abbrev pub Stood : T → List Entry → List Entry → Type 0
   Stood logged k h = StandsLogged disk taken faults (followed logged) (log logged) k h
 
-  abbrev pub Serviced : Gate → Known (Origin D disk) → T → ℕ → ℕ → (ℕ → List (List Call) → Type 0) → Type 0
-  Serviced gate first left calls own IsEach = Service (λ (t : T). origin_of (followed t)) Stood (IsLegalSince disk) gate first left calls own IsEach
+  abbrev pub Came : T → List Entry → List Entry → List ℕ → Type 0
+  Came logged k h moments = CameSince disk (followed logged) k h moments
 
-  abbrev pub unlogged : (gate : Gate) (first : Known (Origin D disk)) (left : T) (calls own : ℕ) (IsEach : ℕ → List (List Call) → Type 0) → Serviced gate first left calls own IsEach
-      → Service (λ (f : Followed D disk). origin_of f) (StandsSince disk) (IsLegalSince disk) gate first (followed left) calls own IsEach
+  abbrev pub Serviced : Gate → Known (Origin D disk) → T → ℕ → ℕ → (Past → List (List Call) → Type 0) → Type 0
+  Serviced gate first left calls own IsEach = Service (λ (t : T). origin_of (followed t)) Stood Came (IsLegalSince disk) gate first left calls own IsEach
+
+  abbrev pub unlogged : (gate : Gate) (first : Known (Origin D disk)) (left : T) (calls own : ℕ) (IsEach : Past → List (List Call) → Type 0) → Serviced gate first left calls own IsEach
+      → Service (λ (f : Followed D disk). origin_of f) (StandsSince disk) (CameSince disk) (IsLegalSince disk) gate first (followed left) calls own IsEach
   unlogged gate first left calls own IsEach s = record {
     history = s.history;
+    moments = s.moments;
     all = s.all;
     each = s.each;
     shares = s.shares;
     stands_for = s.stands_for.0;
+    came_by = s.came_by;
+    paired = s.paired;
     lawful = s.lawful;
     same_terms = s.same_terms;
     counted = s.counted;
@@ -64,7 +70,7 @@ module _ {D T K : Type 0} (disk : Ghosts D) (followed : T → Followed D disk) (
 
   -- a store with a log that was served, by what is told of it as an object
   pub logged_run : (limit : ℕ) (IsBase : List Entry → Type 0) (store : Store D disk) (begun left : T) (after : D) (c o calls own : ℕ)
-      (IsEach : Gate → Known (Origin D disk) → ℕ → List (List Call) → Type 0) (gate : Gate) (first : Known (Origin D disk)) (bytes : Option (List ℕ)) (count lost : ℕ) (short : Bool)
+      (IsEach : Gate → Known (Origin D disk) → Past → List (List Call) → Type 0) (gate : Gate) (first : Known (Origin D disk)) (bytes : Option (List ℕ)) (count lost : ℕ) (short : Bool)
       → (followed begun).store ≡ store → (followed begun).born.value ≡ store
       → (c ≡ calls) × (o ≡ own) → Begins limit (origin_of (followed begun)) gate first → IsBase first.base × Stood begun first.base [] × IsLegalSince disk first.terms first.base []
       → Serviced gate first left calls own (IsEach gate first) → after ≡ disk_of (followed left).store
@@ -75,6 +81,7 @@ module _ {D T K : Type 0} (disk : Ghosts D) (followed : T → Followed D disk) (
       ap (λ (t : Origin D disk). t.terms.host) (service.same_terms ∙ begins.terms_are) ∙ ap (λ (s : Store D disk). host_of s) is in
       let lines : IsLogOf bytes count lost short (host_of store) first.base service.history =
       subst (λ (h : List ℕ). IsLogOf bytes count lost short h first.base service.history) host (finish _ service.stands_for.1, service.stands_for.2) in
+      let birth : (followed left).born.value ≡ store = ap (λ (t : Origin D disk). t.born.value) (service.same_terms ∙ begins.terms_are) ∙ born in
       let run : IsServed disk limit IsBase store after calls own IsEach = record {
         gate = gate;
         first = first;
@@ -85,7 +92,8 @@ module _ {D T K : Type 0} (disk : Ghosts D) (followed : T → Followed D disk) (
         stands = subst (λ (s : Store D disk). Stands disk s first.base []) is base.1.0.0;
         lawful = subst (λ (t : Terms). IsLegalUnder t first.base []) (ap (λ (t : Origin D disk). t.terms) begins.terms_are ∙ ap (λ (s : Store D disk). terms_of s) is) base.2;
         service = unlogged gate first left calls own (IsEach gate first) service;
-        course = subst (λ (s : Store D disk). Course disk s service.history (followed left).store) (ap (λ (t : Origin D disk). t.born.value) (service.same_terms ∙ begins.terms_are) ∙ born) service.stands_for.0.1;
+        course = subst (λ (s : Store D disk). Course disk s service.history (followed left).store) birth service.stands_for.0.1;
+        course_at = subst (λ (s : Store D disk). CourseAt disk s service.history service.moments (followed left).store) birth service.came_by;
         back = back;
       } in
       subst (λ (z : ℕ × ℕ). (run : IsServed disk limit IsBase store after z.0 z.1 IsEach) × IsLogOf bytes count lost short (host_of store) run.first.base run.service.history)
@@ -93,7 +101,7 @@ module _ {D T K : Type 0} (disk : Ghosts D) (followed : T → Followed D disk) (
 
 -- a server that ran with a log, by what is told of its load and of the store that was served
 pub logged_ran : {D : Type 0} (disk : Ghosts D) (only_now : (d : D) (c : List ℕ) → disk.left_since d (disk.moment d) c → disk.may_leave d c) (plan : Plan) (area limit : ℕ) (IsBase : List Entry → Type 0)
-    (before after : D) (calls own : ℕ) (IsEach : Config → Gate → Known (Origin D disk) → ℕ → List (List Call) → Type 0) (config : Config) (store : Store D disk) (bytes : Option (List ℕ)) (count lost : ℕ) (short : Bool)
+    (before after : D) (calls own : ℕ) (IsEach : Config → Gate → Known (Origin D disk) → Past → List (List Call) → Type 0) (config : Config) (store : Store D disk) (bytes : Option (List ℕ)) (count lost : ℕ) (short : Bool)
     → config ≡ config_of plan → host_of store ≡ plan.host → (disk.tells → IsOfArea plan.host area (area_of store) (disk.seen before))
     → (disk.tells → LeavesOnly disk.moment disk.left_since before (disk_of store) (λ x. disk.may_leave before x ⊎ StaysAsItOpens plan.host area (disk.seen before) x))
     → ((k : List Entry) → IsBase k → IsOpenedTo disk plan.host area before k)
@@ -117,11 +125,13 @@ logged_ran disk only_now plan area limit IsBase before after calls own IsEach co
       lawful = s.lawful;
       service = s.service;
       course = s.course;
+      course_at = s.course_at;
       back = s.back;
     };
     all_own = s.service.all_own;
     any_moment = λ tells. run-leaves disk only_now plan.host area limit IsBase store before after calls own (IsEach config) s tells (loaded tells);
     kept = λ done later is. run-keeps disk only_now limit IsBase store after calls own (IsEach config) s done later is;
+    since = λ tells. run-since disk only_now limit IsBase store after calls own (IsEach config) s tells;
   },
   subst (λ (h : List ℕ). IsLogOf bytes count lost short h s.first.base s.service.history) host_is log,
 )

@@ -48,7 +48,7 @@ abbrev pub IsFront : List ℕ → List ℕ → Type 0
 IsFront front bytes = (rest : List ℕ) × (front ++ rest ≡ bytes)
 
 -- What a sink has taken of the log of these lines. The first of them are put whole. The others are left out and counted: of their bytes a front
--- may have been taken, by a write that failed. None is left out where the sink has had no fault and there was memory for each line; where there was none for one, some are.
+-- may have been taken, by a write that failed, and lines that stand whole in it count too. None is left out where the sink has had no fault and there was memory for each line; where there was none for one, some are.
 -- Nothing is said of the bytes of a sink that does not tell them.
 pub record IsLog (taken : Option (List ℕ)) (faults left_out : ℕ) (out_of_memory : Bool) (lines : List LogLine) : Type 0 where
   pub put : List LogLine

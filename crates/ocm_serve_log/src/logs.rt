@@ -1,6 +1,6 @@
 //! A log: lines that are gathered, and written together.
 ghost use Rattle.std.specs.Prelude.{◌≡◌, ◌+◌, ◌<◌, ◌≤◌, ◌∷◌, ◌++◌, ℕ, List, [], length, decimal, true, false, None, IfOk, IfSome, IsTrue};
-ghost use Rattle.ocm_access_log.specs.Written.{IsLoggable, written};
+ghost use Rattle.ocm_access_log.specs.Written.{IsLoggable, written_ask};
 ghost use Rattle.ocm_access_log.specs.declared.lines.LogLine.{LogLine};
 ghost use Rattle.ocm_entry.specs.Proper.{is_proper};
 ghost use Rattle.ocm_entry.specs.declared.asks.Ask.{Ask};
@@ -26,7 +26,7 @@ pub struct Log<K: LogSink> {
     pub(crate) gathered: Vec<u8>,
     /// How many these are.
     pub(crate) waiting: u64,
-    /// How many lines were left out.
+    /// How many lines were left out: those that were to be written where a write failed, and all since.
     pub(crate) left_out: u64,
     /// Whether one was left out because there was no memory for it.
     pub(crate) out_of_memory: bool,
@@ -120,25 +120,49 @@ impl<K: LogSink> Log<K> {
         self.left_out = self.left_out.saturating_add(1);
     }
 
-    /// Puts a line behind the others, or leaves it out where one was left out before it or there is no memory.
-    fn add(&mut self, text: &Bytes)
-        ensures { (line : LogLine) → text.now ≡ written line → Takes K.taken K.faults self.old self.new (line ∷ []) }
+    /// Gathers the line of a read with this status, by what is written of it with the status 200, or leaves it out where there
+    /// is no memory.
+    fn gather(&mut self, text: &Bytes, status: u16)
+        requires none { self.old.left_out ≡ 0 }
+        requires digits { (100 ≤ status) × (status ≤ 999) }
+        ensures { (line : LogLine) → line.status ≡ status → reads line.ask ≡ true → text.now ≡ written_ask line.place line.moment 200 line.ask → Takes K.taken K.faults self.old self.new (line ∷ []) }
     {
-        if self.left_out == 0 {
-            self.gather(text);
-        } else {
-            self.leave_out();
+        match self.gathered.extend_from_slice(text.as_slice()) {
+            Ok(()) => {
+                set_status(&mut self.gathered, status);
+                self.waiting = self.waiting.saturating_add(1);
+            }
+            Err(_) => self.run_out(),
         }
     }
 
-    /// Gathers a line, or leaves it out where there is no memory.
-    fn gather(&mut self, text: &Bytes)
-        requires { self.old.left_out ≡ 0 }
-        ensures { (line : LogLine) → text.now ≡ written line → Takes K.taken K.faults self.old self.new (line ∷ []) }
+    /// What is written of an ask that reads files where its status is 200, and None of any other. Its line at a place and a
+    /// moment can be written and is read back. Behind a line that was left out no text is made, as where there is no memory.
+    pub(crate) fn text_of_read(
+        &self,
+        ask: &Ask,
+        place: u64,
+        moment: u64,
+    ) -> Option<Result<Bytes, NoMemory>>
+        requires { IsTrue (is_proper ask.now) }
+        ensures loggable { reads ask.now ≡ true → (status : ℕ) → (100 ≤ status) × (status ≤ 999) → IsLoggable (record { place = place; moment = moment; ask = ask.now; status = status }) }
+        ensures other { result ≡ None → reads ask.now ≡ false }
+        ensures text { IfSome result (λ made. IsMadeOf place moment ask.now made) }
     {
-        match self.gathered.extend_from_slice(text.as_slice()) {
-            Ok(()) => self.waiting = self.waiting.saturating_add(1),
-            Err(_) => self.run_out(),
+        match ask {
+            Ask::Dav {
+                secret,
+                method,
+                path,
+                body: _,
+            } if is_reading(*method) => {
+                a_read_is_loggable(place, moment, *method, secret, path, 200);
+                if 0 < self.left_out {
+                    return Some(Err(NoMemory));
+                }
+                Some(log_line(self.alloc, place, moment, *method, secret, path, 200))
+            }
+            _ => None,
         }
     }
 
@@ -164,13 +188,28 @@ impl<K: LogSink> Log<K> {
         }
     }
 
-    /// Puts the line of a read with this status behind the others, or leaves it out where there is no memory.
+    /// Puts the line of a read with this status behind the others, or leaves it out where one was left out before it or there
+    /// is no memory.
     fn put(&mut self, text: Result<Bytes, NoMemory>, status: u16)
         requires digits { (100 ≤ status) × (status ≤ 999) }
         ensures { (line : LogLine) → line.status ≡ status → IsMadeOf line.place line.moment line.ask text → Takes K.taken K.faults self.old self.new (line ∷ []) }
     {
-        match text_with(self.alloc, text, status) {
-            Ok(text) => self.add(&text),
+        if self.left_out == 0 {
+            self.add(text, status);
+        } else {
+            drop(text);
+            self.leave_out();
+        }
+    }
+
+    /// Puts the line of a read with this status behind the others, or leaves it out where there is no memory.
+    fn add(&mut self, text: Result<Bytes, NoMemory>, status: u16)
+        requires none { self.old.left_out ≡ 0 }
+        requires digits { (100 ≤ status) × (status ≤ 999) }
+        ensures { (line : LogLine) → line.status ≡ status → IsMadeOf line.place line.moment line.ask text → Takes K.taken K.faults self.old self.new (line ∷ []) }
+    {
+        match text {
+            Ok(text) => self.gather(&text, status),
             Err(_) => self.run_out(),
         }
     }
@@ -234,55 +273,32 @@ impl<K: LogSink> Log<K> {
     }
 }
 
-/// What is written of a read with this status, by what is written of it with the status 200.
-fn text_with(alloc: Global, text: Result<Bytes, NoMemory>, status: u16) -> Result<Bytes, NoMemory>
+/// Writes this status in place of the status 200: behind lines that end in `200` and a line feed.
+fn set_status(lines: &mut Vec<u8>, status: u16)
     requires digits { (100 ≤ status) × (status ≤ 999) }
-    ensures { IfOk result (λ other. (line : LogLine) → line.status ≡ status → IsMadeOf line.place line.moment line.ask text → other ≡ written line) }
+    ensures { (front : List ℕ) → lines.old.items ≡ front ++ 50 ∷ 48 ∷ 48 ∷ 10 ∷ [] → lines.new.items ≡ front ++ decimal status ++ 10 ∷ [] }
 {
-    let text = text?;
-    if status == 200 {
-        return Ok(text);
+    if let Some(at) = lines.len().checked_sub(4) {
+        lines[at..at + 3].copy_from_slice(&digits(status));
     }
-    with_status(alloc, &text, status)
 }
 
-/// What is written of a read with this status, by what is written of it with the status 200: what ends in `200` and a line
-/// feed.
-fn with_status(alloc: Global, text: &Bytes, status: u16) -> Result<Bytes, NoMemory>
-    requires digits { (100 ≤ status) × (status ≤ 999) }
-    ensures { IfOk result (λ other. (front : List ℕ) → text.now ≡ front ++ 50 ∷ 48 ∷ 48 ∷ 10 ∷ [] → other ≡ front ++ decimal status ++ 10 ∷ []) }
+/// The digits of a status.
+fn digits(status: u16) -> [u8; 3]
+    requires { (100 ≤ status) × (status ≤ 999) }
+    ensures { result ≡ decimal status }
 {
-    let end = text.len().saturating_sub(4);
-    let mut other = Bytes::of(alloc, &text.as_slice()[..end])?;
-    let digits = u64::from(status).to_string(alloc)?;
-    other.add(digits.as_bytes())?;
-    other.add(b"\n")?;
-    Ok(other)
+    [
+        digit(status / 100),
+        digit(status / 10 % 10),
+        digit(status % 10),
+    ]
 }
 
-/// What is written of an ask that reads files where its status is 200, and None of any other. Its line at a place and a
-/// moment can be written and is read back.
-pub(crate) fn text_of_read(
-    alloc: Global,
-    ask: &Ask,
-    place: u64,
-    moment: u64,
-) -> Option<Result<Bytes, NoMemory>>
-    requires { IsTrue (is_proper ask.now) }
-    ensures loggable { reads ask.now ≡ true → (status : ℕ) → (100 ≤ status) × (status ≤ 999) → IsLoggable (record { place = place; moment = moment; ask = ask.now; status = status }) }
-    ensures other { result ≡ None → reads ask.now ≡ false }
-    ensures text { IfSome result (λ made. IsMadeOf place moment ask.now made) }
+/// The digit of a number below 10.
+fn digit(number: u16) -> u8
+    requires { number < 10 }
+    ensures { result ≡ 48 + number }
 {
-    match ask {
-        Ask::Dav {
-            secret,
-            method,
-            path,
-            body: _,
-        } if is_reading(*method) => {
-            a_read_is_loggable(place, moment, *method, secret, path, 200);
-            Some(log_line(alloc, place, moment, *method, secret, path, 200))
-        }
-        _ => None,
-    }
+    b'0' + number as u8
 }

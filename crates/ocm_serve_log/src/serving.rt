@@ -44,7 +44,8 @@ pub struct LoggedRun<D, K> {
     pub disk: D,
     /// Where its log went.
     pub sink: K,
-    /// How many lines were left out, since one of them could not be written.
+    /// How many lines were left out, since one of them could not be written. Those that were to be written with it all count,
+    /// also where they were.
     pub left_out: u64,
     /// Whether there was no memory for one of them.
     pub out_of_memory: bool,
@@ -78,12 +79,12 @@ where
     // All that `serve` says of a run, and that the sink has the first lines of the reads in the one history, in their order: all of them but so many
     // as were left out, which is none where the sink has had no fault and there was memory for each line, and some where there was none for one.
     ensures served { (calls own : ℕ) → HasServed result.served calls own → (run : Ran ⟦<D as Disk>⟧ plan.now (new_area served_disk_bytes) (2 ^ 63) disk result.disk calls own
-        (λ config gate first count all. (length all ≡ length workers.old) × ((i : ℕ) (d : _) → i < length workers.old →
+        (λ config gate first past all. (length all ≡ length workers.old) × ((i : ℕ) (d : _) → i < length workers.old →
         let a = slice_index_or workers.old i d in let b = slice_index_or workers.new i d in
         Shift L.Conn.sides config gate first (draw_at draw_key i)
         (work (L.told a.door) (L.faults a.door) (N.exchanges a.dial) (N.faults a.dial) (N.delivers a.dial) a.draw (C.given a.clock) a.pass a.end)
         (work (L.told b.door) (L.faults b.door) (N.exchanges b.dial) (N.faults b.dial) (N.delivers b.dial) b.draw (C.given b.clock) b.pass b.end)
-        (slice_index_or all i []) count)))
+        (slice_index_or all i []) past)))
         × IsLogOf (K.taken result.sink) (K.faults result.sink) result.left_out result.out_of_memory plan.now.host run.served.first.base run.served.service.history }
     ensures ended { (calls own : ℕ) → result.served ≡ Served.Ended calls own → (i : ℕ) (d : _) → i < length workers.new → (slice_index_or workers.new i d).end ≡ rounds.Ended }
     ensures fault { (calls own : ℕ) → result.served ≡ Served.DoorFault calls own → (i : ℕ) × (i < length workers.new) × ((d : _) → (slice_index_or workers.new i d).end ≡ rounds.DoorFault) }
@@ -145,12 +146,12 @@ where
     requires fresh { IfSome (K.taken sink) (λ held. held ≡ []) }
     requires store { (k : List Entry) × J.known k × Stands ⟦<D as Disk>⟧ store k [] × IsLegalUnder (terms_of store) k [] }
     ensures served { (calls own : ℕ) → HasServed result.served calls own → (run : IsServed ⟦<D as Disk>⟧ (2 ^ 63) J.known store result.disk calls own
-        (λ gate first count all. (length all ≡ length workers.old) × ((i : ℕ) (d : _) → i < length workers.old →
+        (λ gate first past all. (length all ≡ length workers.old) × ((i : ℕ) (d : _) → i < length workers.old →
         let a = slice_index_or workers.old i d in let b = slice_index_or workers.new i d in
         Shift L.Conn.sides config.now gate first (draw_at draw_key i)
         (work (L.told a.door) (L.faults a.door) (N.exchanges a.dial) (N.faults a.dial) (N.delivers a.dial) a.draw (C.given a.clock) a.pass a.end)
         (work (L.told b.door) (L.faults b.door) (N.exchanges b.dial) (N.faults b.dial) (N.delivers b.dial) b.draw (C.given b.clock) b.pass b.end)
-        (slice_index_or all i []) count)))
+        (slice_index_or all i []) past)))
         × IsLogOf (K.taken result.sink) (K.faults result.sink) result.left_out result.out_of_memory (host_of store) run.first.base run.service.history }
     ensures ended { (calls own : ℕ) → result.served ≡ Served.Ended calls own → (i : ℕ) (d : _) → i < length workers.new → (slice_index_or workers.new i d).end ≡ rounds.Ended }
     ensures fault { (calls own : ℕ) → result.served ≡ Served.DoorFault calls own → (i : ℕ) × (i < length workers.new) × ((d : _) → (slice_index_or workers.new i d).end ≡ rounds.DoorFault) }

@@ -5,14 +5,14 @@ use Rattle.ocm_disk.specs.declared.disk.Disk.{Ghosts}
 use Rattle.ocm_entry.specs.declared.entries.Entry.{Entry}
 use Rattle.ocm_journal.specs.Openings.{StaysAsItOpens}
 use Rattle.ocm_journal.proofs.Moving.{joined, weaker}
-use Rattle.ocm_server.specs.Objects.{Begins, Service}
+use Rattle.ocm_server.specs.Objects.{Begins, Past, Service}
 use Rattle.ocm_server.specs.declared.served.Served.{Served}
 use Rattle.ocm_server.specs.declared.served.Served.TheVariants.{Ended, DoorFault, DiskFault, NotJournal, OtherHost, NoMemory}
-use Rattle.ocm_serve_store.specs.Following.{IsLegalSince, StandsSince, origin_of}
-use Rattle.ocm_serve_store.specs.Runs.{HasServed, IsCounted, IsDiskFault, IsLoaded, IsOpenedTo, IsSaid, IsServed, KeepsDone, LeavesInRun, as_served}
+use Rattle.ocm_serve_store.specs.Following.{CameSince, IsLegalSince, StandsSince, origin_of}
+use Rattle.ocm_serve_store.specs.Runs.{HasServed, IsCounted, IsDiskFault, IsLoaded, IsOpenedTo, IsSaid, IsServed, KeepsDone, KeepsSince, LeavesInRun, as_served}
 use Rattle.ocm_serve_store.specs.declared.followed.Followed.{Followed}
 use Rattle.ocm_serve_store.specs.declared.followed.Origin.{Origin}
-use Rattle.ocm_store.specs.Courses.{Course, LeavesAlong}
+use Rattle.ocm_store.specs.Courses.{Course, CourseAt, LeavesAlong, LeavesSince}
 use Rattle.ocm_store.specs.Opening as stores
 use Rattle.ocm_store.specs.Opening.{IsNoDiskFault}
 use Rattle.ocm_store.specs.Stores.{IsLegalUnder, Stands, disk_of, terms_of}
@@ -21,15 +21,16 @@ use Rattle.ocm_store.specs.declared.load_faults.LoadFault.TheVariants as loads
 use Rattle.ocm_store.specs.declared.stores.Store.{Store}
 use Rattle.ocm_store.specs.declared.terms.Terms.{Terms}
 use Rattle.ocm_store.proofs.Runs.{courses-keep, courses-leave}
+use Rattle.ocm_store.proofs.Ties.{courses-tie}
 use Rattle.ocm_turn.specs.Passes.{Gate, Known}
 use Rattle.ocm_turn.specs.declared.view.Call.{Call}
 
 -- a store that was followed from its load and served, by what is told of it as an object
 pub served : {D : Type 0} (disk : Ghosts D) (limit : ℕ) (IsBase : List Entry → Type 0) (store : Store D disk) (begun left : Followed D disk) (after : D) (c o calls own : ℕ)
-    (IsEach : Gate → Known (Origin D disk) → ℕ → List (List Call) → Type 0) (gate : Gate) (first : Known (Origin D disk))
+    (IsEach : Gate → Known (Origin D disk) → Past → List (List Call) → Type 0) (gate : Gate) (first : Known (Origin D disk))
     → begun.store ≡ store → begun.born.value ≡ store
     → (c ≡ calls) × (o ≡ own) → Begins limit (origin_of begun) gate first → IsBase first.base × StandsSince disk begun first.base [] × IsLegalSince disk first.terms first.base []
-    → Service (λ (f : Followed D disk). origin_of f) (StandsSince disk) (IsLegalSince disk) gate first left calls own (IsEach gate first) → after ≡ disk_of left.store
+    → Service (λ (f : Followed D disk). origin_of f) (StandsSince disk) (CameSince disk) (IsLegalSince disk) gate first left calls own (IsEach gate first) → after ≡ disk_of left.store
     → IsServed disk limit IsBase store after c o IsEach
 served {D} disk limit IsBase store begun left after c o calls own IsEach gate first is born same begins base service back = record {
   gate = gate;
@@ -41,17 +42,21 @@ served {D} disk limit IsBase store begun left after c o calls own IsEach gate fi
   stands = subst (λ (s : Store D disk). Stands disk s first.base []) is base.1.0;
   lawful = subst (λ (t : Terms). IsLegalUnder t first.base []) (ap (λ (t : Origin D disk). t.terms) begins.terms_are ∙ ap (λ (s : Store D disk). terms_of s) is) base.2;
   service = told;
-  course = subst (λ (s : Store D disk). Course disk s told.history left.store) (ap (λ (t : Origin D disk). t.born.value) (told.same_terms ∙ begins.terms_are) ∙ born) told.stands_for.1;
+  course = subst (λ (s : Store D disk). Course disk s told.history left.store) birth told.stands_for.1;
+  course_at = subst (λ (s : Store D disk). CourseAt disk s told.history told.moments left.store) birth told.came_by;
   back = back;
 }
   where
-    told : Service (λ (f : Followed D disk). origin_of f) (StandsSince disk) (IsLegalSince disk) gate first left c o (IsEach gate first)
-    told = subst (λ (n : ℕ). Service (λ (f : Followed D disk). origin_of f) (StandsSince disk) (IsLegalSince disk) gate first left n o (IsEach gate first)) (sym same.0)
-        (subst (λ (n : ℕ). Service (λ (f : Followed D disk). origin_of f) (StandsSince disk) (IsLegalSince disk) gate first left calls n (IsEach gate first)) (sym same.1) service)
+    told : Service (λ (f : Followed D disk). origin_of f) (StandsSince disk) (CameSince disk) (IsLegalSince disk) gate first left c o (IsEach gate first)
+    told = subst (λ (n : ℕ). Service (λ (f : Followed D disk). origin_of f) (StandsSince disk) (CameSince disk) (IsLegalSince disk) gate first left n o (IsEach gate first)) (sym same.0)
+        (subst (λ (n : ℕ). Service (λ (f : Followed D disk). origin_of f) (StandsSince disk) (CameSince disk) (IsLegalSince disk) gate first left calls n (IsEach gate first)) (sym same.1) service)
+
+    birth : left.born.value ≡ store
+    birth = ap (λ (t : Origin D disk). t.born.value) (told.same_terms ∙ begins.terms_are) ∙ born
 
 -- what a crash leaves at any moment of a run, by what it leaves of a load
 pub run-leaves : {D : Type 0} (disk : Ghosts D) (only_now : (d : D) (c : List ℕ) → disk.left_since d (disk.moment d) c → disk.may_leave d c) (host : List ℕ) (area limit : ℕ) (IsBase : List Entry → Type 0)
-    (store : Store D disk) (before after : D) (c o : ℕ) (IsEach : Gate → Known (Origin D disk) → ℕ → List (List Call) → Type 0) (s : IsServed disk limit IsBase store after c o IsEach) → disk.tells
+    (store : Store D disk) (before after : D) (c o : ℕ) (IsEach : Gate → Known (Origin D disk) → Past → List (List Call) → Type 0) (s : IsServed disk limit IsBase store after c o IsEach) → disk.tells
     → LeavesOnly disk.moment disk.left_since before (disk_of store) (λ x. disk.may_leave before x ⊎ StaysAsItOpens host area (disk.seen before) x)
     → LeavesOnly disk.moment disk.left_since before after (LeavesInRun disk host area before (terms_of store) s.first.base s.service.history)
 run-leaves {D} disk only_now host area limit IsBase store before after c o IsEach s tells loaded =
@@ -64,10 +69,19 @@ run-leaves {D} disk only_now host area limit IsBase store before after c o IsEac
 
 -- and what was answered is kept
 pub run-keeps : {D : Type 0} (disk : Ghosts D) (only_now : (d : D) (c : List ℕ) → disk.left_since d (disk.moment d) c → disk.may_leave d c) (limit : ℕ) (IsBase : List Entry → Type 0)
-    (store : Store D disk) (after : D) (c o : ℕ) (IsEach : Gate → Known (Origin D disk) → ℕ → List (List Call) → Type 0) (s : IsServed disk limit IsBase store after c o IsEach)
+    (store : Store D disk) (after : D) (c o : ℕ) (IsEach : Gate → Known (Origin D disk) → Past → List (List Call) → Type 0) (s : IsServed disk limit IsBase store after c o IsEach)
     (done later : List Entry) → s.service.history ≡ later ++ done → KeepsDone disk store s.first.base done later s.left.store
 run-keeps disk only_now limit IsBase store after c o IsEach s done later is =
     courses-keep disk only_now store s.left.store s.first.base done later (record { stands = s.stands; legal = s.lawful }) (subst (λ (h : List Entry). Course disk store h s.left.store) is s.course)
+
+-- since the moment behind each call
+pub run-since : {D : Type 0} (disk : Ghosts D) (only_now : (d : D) (c : List ℕ) → disk.left_since d (disk.moment d) c → disk.may_leave d c) (limit : ℕ) (IsBase : List Entry → Type 0)
+    (store : Store D disk) (after : D) (c o : ℕ) (IsEach : Gate → Known (Origin D disk) → Past → List (List Call) → Type 0) (s : IsServed disk limit IsBase store after c o IsEach)
+    → disk.tells → KeepsSince disk (terms_of store) s.first.base s.service.history s.service.moments after
+run-since {D} disk only_now limit IsBase store after c o IsEach s tells = λ done later at is behind.
+    subst (λ (d : D). LeavesSince disk d at (LeavesAlong (terms_of store) s.first.base done later)) (sym s.back)
+    (courses-tie disk only_now tells store s.left.store s.first.base done later s.service.moments at (record { stands = s.stands; legal = s.lawful })
+    (subst (λ (h : List Entry). CourseAt disk store h s.service.moments s.left.store) is s.course_at) behind)
 
 -- where the disk was loaded nothing is told of it
 pub loaded-said : (says : Result (List Entry) LoadFault) (r : Served) → IsLoaded r → IsSaid says r
@@ -128,7 +142,7 @@ opened_same {D} disk area host host2 before before2 k same same2 opens =
     subst (λ (d : D). IsOpenedTo disk host2 area d k) same2 (subst (λ (h : List ℕ). IsOpenedTo disk h area before k) same opens)
 
 -- what is known of a base by other words
-pub based : {D : Type 0} (disk : Ghosts D) (limit : ℕ) (IsBase IsBase2 : List Entry → Type 0) (store : Store D disk) (after : D) (c o : ℕ) (IsEach : Gate → Known (Origin D disk) → ℕ → List (List Call) → Type 0)
+pub based : {D : Type 0} (disk : Ghosts D) (limit : ℕ) (IsBase IsBase2 : List Entry → Type 0) (store : Store D disk) (after : D) (c o : ℕ) (IsEach : Gate → Known (Origin D disk) → Past → List (List Call) → Type 0)
     → ((k : List Entry) → IsBase k → IsBase2 k) → IsServed disk limit IsBase store after c o IsEach → IsServed disk limit IsBase2 store after c o IsEach
 based disk limit IsBase IsBase2 store after c o IsEach then s = record {
   gate = s.gate;
@@ -141,5 +155,6 @@ based disk limit IsBase IsBase2 store after c o IsEach then s = record {
   lawful = s.lawful;
   service = s.service;
   course = s.course;
+  course_at = s.course_at;
   back = s.back;
 }

@@ -7,16 +7,16 @@ use Rattle.ocm_disk.specs.declared.disk.Disk.{Ghosts}
 use Rattle.ocm_entry.specs.declared.entries.Entry.{Entry}
 use Rattle.ocm_journal.specs.Openings.{StaysAsItOpens}
 use Rattle.ocm_serve_options.specs.declared.plans.Plan.{Plan}
-use Rattle.ocm_serve_store.specs.Following.{IsLegalSince, StandsSince, origin_of}
+use Rattle.ocm_serve_store.specs.Following.{CameSince, IsLegalSince, StandsSince, origin_of}
 use Rattle.ocm_serve_store.specs.declared.followed.Followed.{Followed}
 use Rattle.ocm_serve_store.specs.declared.followed.Origin.{Origin}
-use Rattle.ocm_server.specs.Objects.{Begins, Service}
+use Rattle.ocm_server.specs.Objects.{Begins, Past, Service}
 use Rattle.ocm_server.specs.declared.served.Served.{Served}
 use Rattle.ocm_server.specs.declared.workers.Rounds.{Rounds}
 use Rattle.ocm_server.specs.declared.workers.Rounds.TheVariants as rounds
 use Rattle.ocm_server.specs.declared.served.Served.TheVariants.{Ended, DoorFault, DiskFault, NotJournal, OtherHost, NoMemory}
 use Rattle.ocm_store.specs.Acts.{StandsLegally}
-use Rattle.ocm_store.specs.Courses.{Course, LeavesAlong}
+use Rattle.ocm_store.specs.Courses.{Course, CourseAt, IsMomentBehind, LeavesAlong, LeavesSince}
 use Rattle.ocm_store.specs.Opening.{IsOfArea, OpensTo, loading}
 use Rattle.ocm_store.specs.Stores.{IsLegalUnder, Stands, area_of, disk_of, host_of, terms_of}
 use Rattle.ocm_store.specs.declared.load_faults.LoadFault.{LoadFault}
@@ -87,10 +87,15 @@ abbrev pub KeepsDone : {D : Type 0} (disk : Ghosts D) → Store D disk → List 
 KeepsDone {D} disk store k done later left = (mid : Store D disk) × Course disk store done mid × Course disk mid later left × StandsLegally disk mid k done
     × (disk.tells → LeavesOnly disk.moment disk.left_since (disk_of mid) (disk_of left) (LeavesAlong (terms_of store) k done later))
 
+-- Since the moment of the disk behind a call of a run a crash leaves what may follow this call, or a later one. By the end of the run, when the disk
+-- is this one, that moment has been.
+abbrev pub KeepsSince : {D : Type 0} (disk : Ghosts D) → Terms → List Entry → List Entry → List ℕ → D → Type 0
+KeepsSince disk terms k h moments after = (done later : List Entry) (at : ℕ) → h ≡ later ++ done → IsMomentBehind done moments at → LeavesSince disk after at (LeavesAlong terms k done later)
+
 -- A store was served by so many calls, of which so many are those of its workers, and its disk came back. It stood for a base at first, of
 -- which something is known, and at the end for that base and one history in which the calls of all workers stand, and came to it by these
 -- calls; what is known of each worker is told apart.
-pub record IsServed {D : Type 0} (disk : Ghosts D) (limit : ℕ) (IsBase : List Entry → Type 0) (store : Store D disk) (after : D) (calls own : ℕ) (IsEach : Gate → Known (Origin D disk) → ℕ → List (List Call) → Type 0) : Type 0 where
+pub record IsServed {D : Type 0} (disk : Ghosts D) (limit : ℕ) (IsBase : List Entry → Type 0) (store : Store D disk) (after : D) (calls own : ℕ) (IsEach : Gate → Known (Origin D disk) → Past → List (List Call) → Type 0) : Type 0 where
   pub gate : Gate
   pub first : Known (Origin D disk)
   pub begun : Followed D disk
@@ -99,13 +104,15 @@ pub record IsServed {D : Type 0} (disk : Ghosts D) (limit : ℕ) (IsBase : List 
   pub is_base : IsBase first.base
   pub stands : Stands disk store first.base []
   pub lawful : IsLegalUnder (terms_of store) first.base []
-  pub service : Service (λ (f : Followed D disk). origin_of f) (StandsSince disk) (IsLegalSince disk) gate first left calls own (IsEach gate first)
+  pub service : Service (λ (f : Followed D disk). origin_of f) (StandsSince disk) (CameSince disk) (IsLegalSince disk) gate first left calls own (IsEach gate first)
   pub course : Course disk store service.history left.store
+  -- the same, with the moments that stand in what is known of each worker
+  pub course_at : CourseAt disk store service.history service.moments left.store
   pub back : after ≡ disk_of left.store
 
 -- a server ran by a plan: it knew of itself what the plan says, and the store of its host was loaded from a disk, and served behind what
 -- the disk opens to, by the calls of its workers alone
-pub record Ran {D : Type 0} (disk : Ghosts D) (plan : Plan) (area limit : ℕ) (before after : D) (calls own : ℕ) (IsEach : Config → Gate → Known (Origin D disk) → ℕ → List (List Call) → Type 0) : Type 0 where
+pub record Ran {D : Type 0} (disk : Ghosts D) (plan : Plan) (area limit : ℕ) (before after : D) (calls own : ℕ) (IsEach : Config → Gate → Known (Origin D disk) → Past → List (List Call) → Type 0) : Type 0 where
   pub config : Config
   pub config_is : config ≡ config_of plan
   pub store : Store D disk
@@ -117,10 +124,12 @@ pub record Ran {D : Type 0} (disk : Ghosts D) (plan : Plan) (area limit : ℕ) (
   pub any_moment : disk.tells → LeavesOnly disk.moment disk.left_since before after (LeavesInRun disk plan.host area before (terms_of store) served.first.base served.service.history)
   -- what was answered is not lost
   pub kept : (done later : List Entry) → served.service.history ≡ later ++ done → KeepsDone disk store served.first.base done later served.left.store
+  -- since the moment of the disk behind a call a crash leaves what may follow it, or a later call
+  pub since : disk.tells → KeepsSince disk (terms_of store) served.first.base served.service.history served.service.moments after
 
 -- What came of running a server by a plan, from its disk and its workers as they were: the disk and the workers that were left, and what is
 -- known of them. `new` is the size of the areas of a new journal.
-pub record RunsTo {D W : Type 0} (disk : Ghosts D) (plan : Plan) (new limit : ℕ) (IsEach : List W → List W → Config → Gate → Known (Origin D disk) → ℕ → List (List Call) → Type 0) (end : W → Rounds) (before : D) (workers : List W) (came : Served) : Type 0 where
+pub record RunsTo {D W : Type 0} (disk : Ghosts D) (plan : Plan) (new limit : ℕ) (IsEach : List W → List W → Config → Gate → Known (Origin D disk) → Past → List (List Call) → Type 0) (end : W → Rounds) (before : D) (workers : List W) (came : Served) : Type 0 where
   pub after : D
   pub left : List W
   pub ran : (calls own : ℕ) → HasServed came calls own → Ran disk plan new limit before after calls own (IsEach workers left)

@@ -15,13 +15,12 @@ use crate::followed::Followed;
 use ocm_base::{Clock, NoMemory};
 use ocm_dav::Config;
 use ocm_disk::Disk;
-use ocm_entry::Object;
 use ocm_limits::SERVED_DISK_BYTES;
 use ocm_pump::Dial;
 use ocm_serve_options::Plan;
 use ocm_server::{Door, Rounds, Served, Worker, serve_object};
 use ocm_store::{LoadFault, Store};
-use ocm_turn::Founded;
+use ocm_turn::{Dated, Founded};
 use ocm_types::Host;
 use std::alloc::Global;
 use std::marker::Brand;
@@ -56,14 +55,16 @@ where
 
     // The calls of each worker stand in one history, in the order in which it made them. The history is legal behind what the disk
     // opened to, and the disk that comes back is that of a store that stands for it and came to it by these calls. A crash at any moment
-    // of the run leaves what may follow at some place of them, and loses nothing that was answered before.
+    // of the run leaves what may follow at some place of them, and loses nothing that was answered before. A connection that notes moments
+    // has with each page the moment of the disk behind the newest call that the worker knew of when it was written. Since that moment a crash
+    // leaves what may follow this call, or a later one.
     ensures served { (calls own : ℕ) → HasServed result.0 calls own → Ran ⟦<D as Disk>⟧ plan.now (new_area served_disk_bytes) (2 ^ 63) disk result.1 calls own
-        (λ config gate first count all. (length all ≡ length workers.old) × ((i : ℕ) (d : _) → i < length workers.old →
+        (λ config gate first past all. (length all ≡ length workers.old) × ((i : ℕ) (d : _) → i < length workers.old →
         let a = slice_index_or workers.old i d in let b = slice_index_or workers.new i d in
         Shift L.Conn.sides config gate first (draw_at draw_key i)
         (work (L.told a.door) (L.faults a.door) (N.exchanges a.dial) (N.faults a.dial) (N.delivers a.dial) a.draw (K.given a.clock) a.pass a.end)
         (work (L.told b.door) (L.faults b.door) (N.exchanges b.dial) (N.faults b.dial) (N.delivers b.dial) b.draw (K.given b.clock) b.pass b.end)
-        (slice_index_or all i []) count)) }
+        (slice_index_or all i []) past)) }
 
     // It ended where every door came to its end, and else the door of a worker failed.
     ensures ended { (calls own : ℕ) → result.0 ≡ Served.Ended calls own → (i : ℕ) (d : _) → i < length workers.new → (slice_index_or workers.new i d).end ≡ rounds.Ended }
@@ -137,12 +138,12 @@ where
     requires some { 0 < length workers.old }
     requires store { (k : List Entry) × J.known k × Stands ⟦<D as Disk>⟧ store k [] × IsLegalUnder (terms_of store) k [] }
     ensures served { (calls own : ℕ) → HasServed result.0 calls own → IsServed ⟦<D as Disk>⟧ (2 ^ 63) J.known store result.1 calls own
-        (λ gate first count all. (length all ≡ length workers.old) × ((i : ℕ) (d : _) → i < length workers.old →
+        (λ gate first past all. (length all ≡ length workers.old) × ((i : ℕ) (d : _) → i < length workers.old →
         let a = slice_index_or workers.old i d in let b = slice_index_or workers.new i d in
         Shift L.Conn.sides config.now gate first (draw_at draw_key i)
         (work (L.told a.door) (L.faults a.door) (N.exchanges a.dial) (N.faults a.dial) (N.delivers a.dial) a.draw (K.given a.clock) a.pass a.end)
         (work (L.told b.door) (L.faults b.door) (N.exchanges b.dial) (N.faults b.dial) (N.delivers b.dial) b.draw (K.given b.clock) b.pass b.end)
-        (slice_index_or all i []) count)) }
+        (slice_index_or all i []) past)) }
     ensures ended { (calls own : ℕ) → result.0 ≡ Served.Ended calls own → (i : ℕ) (d : _) → i < length workers.new → (slice_index_or workers.new i d).end ≡ rounds.Ended }
     ensures fault { (calls own : ℕ) → result.0 ≡ Served.DoorFault calls own → (i : ℕ) × (i < length workers.new) × ((d : _) → (slice_index_or workers.new i d).end ≡ rounds.DoorFault) }
     ensures loaded { IsLoaded result.0 }
@@ -167,7 +168,7 @@ where
 }
 
 /// How workers ended that made so many calls: by a fault of a door where one of them had it.
-pub fn ended<T: Object, L: Door, N: Dial, K: Clock>(
+pub fn ended<T: Dated, L: Door, N: Dial, K: Clock>(
     workers: &[Worker<T, L, N, K>],
     calls: u64,
     own: u64,

@@ -1,5 +1,5 @@
 -- Workers changed one after another.
-use Rattle.std.proofs.Common.{◌≡◌, ℕ, ◌+◌, ◌-◌, ◌<◌, ◌≤◌, ◌⊎◌, List, ◌∷◌, length, get_or, set, drop, map, add-one, inl, inr, refl, sym, ap, subst, ◌∙◌, arith}
+use Rattle.std.proofs.Common.{◌≡◌, ℕ, ◌+◌, ◌-◌, ◌<◌, ◌≤◌, ◌⊎◌, List, ◌∷◌, length, get_or, set, drop, map, Option, Some, None, add-one, inl, inr, refl, sym, ap, subst, ◌∙◌, arith}
 use Rattle.std.proofs.lemmas.List.{get_or_default, get_or-set_same, get_or-set_other, drop_all}
 use Rattle.std.proofs.Math.Nat.{le-max_left, le-max_right}
 use Rattle.std.proofs.Math.Seq.{drop-cons}
@@ -7,10 +7,21 @@ use Rattle.std.specs.Prelude.{max}
 use Rattle.ocm_turn.specs.declared.view.Call.{Call}
 use Rattle.ocm_turn.specs.Calls.{merged}
 use Rattle.ocm_turn.specs.Passes.{Known}
-use Rattle.ocm_server.specs.Objects.{gathered}
+use Rattle.ocm_turn.proofs.CallLemmas.{older_through}
+use Rattle.ocm_server.specs.Objects.{gathered, Past, past_of, IsOlder, Knows}
 
 below_or_at : (i k : ℕ) → i < k + 1 → (i < k) ⊎ (i ≡ k)
 below_or_at i k h = grind arith
+
+pub older_then : (a b c : Past) → IsOlder a b → IsOlder b c → IsOlder a c
+older_then a b c p q = record {
+  history = older_through a.history b.history c.history p.history q.history;
+  moments = older_through a.moments b.moments c.moments p.moments q.moments;
+}
+
+pub knows_through : {Terms : Type 0} (pass : Option (Known Terms)) (p p' : Past) → Knows pass p → IsOlder p p' → Knows pass p'
+knows_through (Some pass) p p' knows older = older_then (past_of pass) p p' knows older
+knows_through None p p' knows older = tt
 
 module _ {W : Type 0} where
   -- the workers below a place are changed so, and the others are as they were
@@ -46,6 +57,15 @@ module _ {W : Type 0} where
       here : (i < k) ⊎ (i ≡ k) → drawn (get_or old i d) ≤ n'
       here (inl h) = let low = before i d h in let up = le-max_left n (drawn x) in omega (arith, low, up, most)
       here (inr e) = let up = le-max_right n (drawn x) in subst (λ (j : ℕ). drawn (get_or old j d) ≤ n') (sym e) (subst (λ (w : W). drawn w ≤ n') x_old (omega (arith, up, most)))
+
+  -- the pass of each worker below a place knows an older part of the past
+  pub knows_more : {Terms : Type 0} (pass : W → Option (Known Terms)) (old new : List W) (k : ℕ) (x : W) (p p' : Past) → ((i : ℕ) (d : W) → i < k → Knows (pass (get_or old i d)) p) → k < length new
+      → ((d : W) → get_or new k d ≡ get_or old k d) → x ≡ get_or new k x → IsOlder p p' → Knows (pass x) p' → (i : ℕ) (d : W) → i < k + 1 → Knows (pass (get_or old i d)) p'
+  knows_more pass old new k x p p' before at same x_is older knows i d h = here (below_or_at i k h)
+    where
+      here : (i < k) ⊎ (i ≡ k) → Knows (pass (get_or old i d)) p'
+      here (inl h) = knows_through (pass (get_or old i d)) p p' (before i d h) older
+      here (inr e) = subst (λ (j : ℕ). Knows (pass (get_or old j d)) p') (sym e) (subst (λ (w : W). Knows (pass w) p') (x_is ∙ (get_or_default new k x d at ∙ same d)) knows)
 
   -- gathered calls of the workers from a place on
   pub gathered_more : (mine : W → List Call) (old new : List W) (k : ℕ) (x : W) (acc acc' : List Call) → k < length old → ((d : W) → get_or new k d ≡ get_or old k d) → k < length new → x ≡ get_or new k x

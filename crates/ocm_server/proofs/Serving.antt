@@ -9,7 +9,7 @@ use Rattle.ocm_turn.specs.declared.view.Call.{Call}
 use Rattle.ocm_turn.specs.Calls.{StandIn, InOrder}
 use Rattle.ocm_turn.specs.Passes.{Gate, Known, SameGround}
 use Rattle.ocm_server_connections.specs.Sides.{Sides}
-use Rattle.ocm_server.specs.Objects.{begun, drawn_of, gathered, mine_of, parts_of, Service, Shift}
+use Rattle.ocm_server.specs.Objects.{begun, drawn_of, gathered, mine_of, parts_of, Knows, Past, Service, Shift}
 use Rattle.ocm_server.specs.Visits.{Work, Worked}
 use Rattle.ocm_server.proofs.Sharing.{shares}
 use Rattle.ocm_turn.proofs.AllCalls.{all_are_the_history}
@@ -29,22 +29,25 @@ order_of {C} {Terms} sides config gate old new worked = subst (λ (p : Option (K
 pub same_parts : {C Terms : Type 0} (sides : C → Sides) (config : Config) (gate : Gate) (old new : Work C Terms) → Worked sides config gate old new → parts_of new.pass ≡ parts_of old.pass
 same_parts sides config gate old new worked = ap parts_of worked.has ∙ (worked.moved.1.parts ∙ sym (ap parts_of worked.had))
 
-module _ {T Terms : Type 0} (terms_of : T → Terms) (stands : T → List Entry → List Entry → Type 0) (legal : Terms → List Entry → List Entry → Type 0) where
-  pub service : (gate : Gate) (first last : Known Terms) (left : T) (calls own : ℕ) (IsEach : ℕ → List (List Call) → Type 0) (all : List (List Call)) (history : List Entry)
-      → SameGround first last → first.mine ≡ [] → last.mine ≡ gathered first.mine all → IsEach calls all
-      → stands left last.base history → legal last.terms last.base history → terms_of left ≡ last.terms → calls ≡ length history
+module _ {T Terms : Type 0} (terms_of : T → Terms) (stands : T → List Entry → List Entry → Type 0) (came : T → List Entry → List Entry → List ℕ → Type 0) (legal : Terms → List Entry → List Entry → Type 0) where
+  pub service : (gate : Gate) (first last : Known Terms) (left : T) (calls own : ℕ) (IsEach : Past → List (List Call) → Type 0) (all : List (List Call)) (history : List Entry) (moments : List ℕ)
+      → SameGround first last → first.mine ≡ [] → last.mine ≡ gathered first.mine all → IsEach (record { history = history; moments = moments }) all
+      → stands left last.base history → came left last.base history moments → length moments ≡ length history → legal last.terms last.base history → terms_of left ≡ last.terms → calls ≡ length history
       → StandIn history last.mine → AllByRecursion InOrder all → InOrder last.mine → own ≡ length last.mine → length last.mine ≡ calls
-      → Service terms_of stands legal gate first left calls own IsEach
-  service gate first last left calls own IsEach all history ground none mine each st law same count stand orders order own_is whole =
+      → Service terms_of stands came legal gate first left calls own IsEach
+  service gate first last left calls own IsEach all history moments ground none mine each st by paired law same count stand orders order own_is whole =
       let e : last.mine ≡ gathered [] all = mine ∙ ap (λ (m : List Call). gathered m all) none in
       let in_history : StandIn history (gathered [] all) = subst (λ (m : List Call). StandIn history m) e stand in
       let in_order : InOrder (gathered [] all) = subst (λ (m : List Call). InOrder m) e order in
       record {
         history = history;
+        moments = moments;
         all = all;
         each = each;
         shares = shares history all own in_history orders in_order (own_is ∙ ap length e);
         stands_for = subst (λ (b : List Entry). stands left b history) ground.base st;
+        came_by = subst (λ (b : List Entry). came left b history moments) ground.base by;
+        paired = paired;
         lawful = subst (λ (z : Terms × List Entry). legal z.0 z.1 history) (λ i. (ground.terms i, ground.base i)) law;
         same_terms = same ∙ ground.terms;
         counted = count;
@@ -53,15 +56,16 @@ module _ {T Terms : Type 0} (terms_of : T → Terms) (stands : T → List Entry 
       }
 
 module _ {C Terms : Type 0} (sides : C → Sides) (config : Config) (gate : Gate) (first : Known Terms) (draw : ChaCha) where
-  pub shift : (old dealt served left : Work C Terms) (calls : List Call) (count : ℕ) → dealt ≡ begun old draw first → Worked sides config gate dealt served
-      → left ≡ record served { pass = None } → calls ≡ mine_of served.pass → drawn_of served.pass ≤ count → Shift sides config gate first draw old left calls count
-  shift old dealt served left calls count dealt_is worked left_is calls_is within =
+  pub shift : (old dealt served left : Work C Terms) (calls : List Call) (past : Past) → dealt ≡ begun old draw first → Worked sides config gate dealt served
+      → left ≡ record served { pass = None } → calls ≡ mine_of served.pass → Knows served.pass past → drawn_of served.pass ≤ length past.history → Shift sides config gate first draw old left calls past
+  shift old dealt served left calls past dealt_is worked left_is calls_is knows within =
       let ends : served ≡ record left { pass = Some worked.after } =
       (λ i. record served { pass = worked.has i }) ∙ ap (λ (w : Work C Terms). record w { pass = Some worked.after }) (sym left_is) in
       record {
         last = worked.after;
         worked = subst (λ (z : Work C Terms × Work C Terms). Worked sides config gate z.0 z.1) (λ i. (dealt_is i, ends i)) worked;
         calls_are = calls_is ∙ ap mine_of worked.has;
-        within = subst (λ (p : Option (Known Terms)). drawn_of p ≤ count) worked.has within;
+        knows = subst (λ (p : Option (Known Terms)). Knows p past) worked.has knows;
+        within = subst (λ (p : Option (Known Terms)). drawn_of p ≤ length past.history) worked.has within;
         no_pass = ap (λ (w : Work C Terms). w.pass) left_is;
       }

@@ -4,15 +4,15 @@ use Rattle.std.specs.List.{AllByRecursion}
 use Rattle.rand_chacha.specs.ChaCha.{ChaCha, key_of}
 use Rattle.ocm_entry.specs.declared.entries.Entry.{Entry}
 use Rattle.ocm_turn.specs.declared.view.Call.{Call}
-use Rattle.ocm_turn.specs.Calls.{StandIn, InOrder, Disjoint, entries, merged}
+use Rattle.ocm_turn.specs.Calls.{IsOlderPart, StandIn, InOrder, Disjoint, entries, merged}
 use Rattle.ocm_turn.specs.Passes.{Gate, Known, BelongsTo}
 use Rattle.ocm_dav.specs.declared.configs.Config.{Config}
 use Rattle.ocm_server_connections.specs.Sides.{Sides}
 use Rattle.ocm_server.specs.Visits.{Work, Worked}
 
--- a pass that was split off: it has seen what the other has seen, and made no call, and has one of its parts
+-- a pass that was split off: it has seen what the other has seen, with the moments, and made no call, and has one of its parts
 abbrev pub beginner : {Terms : Type 0} → Known Terms → Known Terms
-beginner pass = record { turnstile = pass.turnstile; base = pass.base; terms = pass.terms; seen = pass.seen; mine = []; drawn = pass.drawn; parts = 1 }
+beginner pass = record { turnstile = pass.turnstile; base = pass.base; terms = pass.terms; seen = pass.seen; moments = pass.moments; mine = []; drawn = pass.drawn; parts = 1 }
 
 -- the stream of drawn values of the worker at a place
 abbrev pub draw_at : List ℕ → ℕ → ChaCha
@@ -32,6 +32,25 @@ drawn_of None = 0
 abbrev pub parts_of : {Terms : Type 0} → Option (Known Terms) → ℕ
 parts_of (Some pass) = pass.parts
 parts_of None = 0
+
+-- a history, and the moments behind its entries, the newest first
+pub record Past : Type 0 where
+  pub history : List Entry
+  pub moments : List ℕ
+
+-- what a pass knows of the past
+abbrev pub past_of : {Terms : Type 0} → Known Terms → Past
+past_of pass = record { history = pass.seen; moments = pass.moments }
+
+-- a past is an older part of another
+pub record IsOlder (older whole : Past) : Type 0 where
+  pub history : IsOlderPart older.history whole.history
+  pub moments : IsOlderPart older.moments whole.moments
+
+-- what a pass knows of the past, where there is one, is an older part of it
+abbrev pub Knows : {Terms : Type 0} → Option (Known Terms) → Past → Type 0
+Knows (Some pass) past = IsOlder (past_of pass) past
+Knows None past = ⊤
 
 -- calls joined with those of others, one after another
 abbrev pub gathered : List Call → List (List Call) → List Call
@@ -60,12 +79,13 @@ abbrev pub begun : {C Terms : Type 0} → Work C Terms → ChaCha → Known Term
 begun w draw pass = record w { draw = draw; pass = Some (beginner pass) }
 
 -- one worker: it began with its stream of drawn values and a pass that knows no call, and served its door; these are its calls, and its pass is gone.
--- No ticket word that it found is above the number of all calls: it was refused a call only where so many were made as the turnstile allows.
-pub record Shift {C Terms : Type 0} (sides : C → Sides) (config : Config) (gate : Gate) (first : Known Terms) (draw : ChaCha) (old new : Work C Terms) (calls : List Call) (count : ℕ) : Type 0 where
+-- What its pass knew at last is an older part of the past. No ticket word that it found is above the number of all calls: it was refused a call only where so many were made as the turnstile allows.
+pub record Shift {C Terms : Type 0} (sides : C → Sides) (config : Config) (gate : Gate) (first : Known Terms) (draw : ChaCha) (old new : Work C Terms) (calls : List Call) (past : Past) : Type 0 where
   pub last : Known Terms
   pub worked : Worked sides config gate (begun old draw first) (record new { pass = Some last })
   pub calls_are : calls ≡ last.mine
-  pub within : last.drawn ≤ count
+  pub knows : IsOlder (past_of last) past
+  pub within : last.drawn ≤ length past.history
   pub no_pass : new.pass ≡ None
 
 -- the first pass of a turnstile of this limit, over a value of these terms
@@ -74,17 +94,21 @@ pub record Begins {Terms : Type 0} (limit : ℕ) (terms : Terms) (gate : Gate) (
   pub own : BelongsTo gate first
   pub terms_are : first.terms ≡ terms
   pub unseen : first.seen ≡ []
+  pub unnoted : first.moments ≡ []
   pub uncalled : first.mine ≡ []
   pub undrawn : first.drawn ≡ 0
 
--- A value was served: the turnstile and its first pass, the one history, and the calls of each worker, which are the whole of it: nobody else made a call.
--- What is known of each worker is told apart, by the number of all calls and the calls of each.
-pub record Service {T Terms : Type 0} (terms_of : T → Terms) (stands : T → List Entry → List Entry → Type 0) (legal : Terms → List Entry → List Entry → Type 0) (gate : Gate) (first : Known Terms) (left : T) (calls own : ℕ) (IsEach : ℕ → List (List Call) → Type 0) : Type 0 where
+-- A value was served: the turnstile and its first pass, the one history with the moment behind each of its entries, and the calls of each worker, which are the whole of it: nobody else made a call.
+-- What is known of each worker is told apart, by the history with its moments and the calls of each.
+pub record Service {T Terms : Type 0} (terms_of : T → Terms) (stands : T → List Entry → List Entry → Type 0) (came : T → List Entry → List Entry → List ℕ → Type 0) (legal : Terms → List Entry → List Entry → Type 0) (gate : Gate) (first : Known Terms) (left : T) (calls own : ℕ) (IsEach : Past → List (List Call) → Type 0) : Type 0 where
   pub history : List Entry
+  pub moments : List ℕ
   pub all : List (List Call)
-  pub each : IsEach calls all
+  pub each : IsEach (record { history = history; moments = moments }) all
   pub shares : Shares history all own
   pub stands_for : stands left first.base history
+  pub came_by : came left first.base history moments
+  pub paired : length moments ≡ length history
   pub lawful : legal first.terms first.base history
   pub same_terms : terms_of left ≡ first.terms
   pub counted : calls ≡ length history

@@ -11,10 +11,9 @@ use crate::passes::{deal, gather};
 use crate::workers::{Rounds, Worker, serve_all};
 use ocm_base::Clock;
 use ocm_dav::Config;
-use ocm_entry::Object;
 use ocm_pump::Dial;
 use ocm_server_connections::{Conn, Node};
-use ocm_turn::{Founded, Pass, Turnstile};
+use ocm_turn::{Dated, Founded, Pass, Turnstile};
 use std::alloc::Global;
 use std::sync::Wait;
 use std::thread::Threads;
@@ -34,7 +33,7 @@ pub struct Finished<T> {
 
 /// Runs the workers at a turnstile, each with a pass of its own, and takes the object out behind the last call.
 fn serve_through<
-    T: Object + Send,
+    T: Dated + Send,
     L: Door + Send,
     N: Dial + Send,
     K: Clock + Send,
@@ -55,13 +54,13 @@ where
     requires uncalled { pass.mine ≡ [] }
     requires whole { pass.parts ≡ all_parts }
     requires some { 0 < length workers.old }
-    ensures service { Service T.terms T.stands T.legal node pass result.value result.calls result.own
-        (λ count all. (length all ≡ length workers.old) × ((i : ℕ) (d : Worker T L N K T.Terms L.Conn) → i < length workers.old →
+    ensures service { Service T.terms T.stands T.came T.legal node pass result.value result.calls result.own
+        (λ past all. (length all ≡ length workers.old) × ((i : ℕ) (d : Worker T L N K T.Terms L.Conn) → i < length workers.old →
         let a = slice_index_or workers.old i d in let b = slice_index_or workers.new i d in
         Shift L.Conn.sides config.now node pass (draw_at draw_key i)
         (work (L.told a.door) (L.faults a.door) (N.exchanges a.dial) (N.faults a.dial) (N.delivers a.dial) a.draw (K.given a.clock) a.pass a.end)
         (work (L.told b.door) (L.faults b.door) (N.exchanges b.dial) (N.faults b.dial) (N.delivers b.dial) b.draw (K.given b.clock) b.pass b.end)
-        (slice_index_or all i []) count)) }
+        (slice_index_or all i []) past)) }
     ensures ended { result.rounds ≡ Rounds.Ended → (i : ℕ) (d : Worker T L N K T.Terms L.Conn) → i < length workers.new → (slice_index_or workers.new i d).end ≡ Rounds.Ended }
     ensures fault { result.rounds ≡ Rounds.DoorFault → (i : ℕ) × (i < length workers.new) × ((d : Worker T L N K T.Terms L.Conn) → (slice_index_or workers.new i d).end ≡ Rounds.DoorFault) }
 {
@@ -84,7 +83,7 @@ where
 /// It waits, and its return is not promised.
 pub fn serve_object<
     J: Founded,
-    T: Object + Send,
+    T: Dated + Send,
     L: Door + Send,
     N: Dial + Send,
     K: Clock + Send,
@@ -106,13 +105,13 @@ where
     requires some { 0 < length workers.old }
     ensures served { IfOk result (λ f. (gate : Gate) × (first : Known T.Terms) × Begins limit (T.terms value) gate first
         × (J.known first.base × T.stands value first.base [] × T.legal first.terms first.base [])
-        × Service T.terms T.stands T.legal gate first f.value f.calls f.own
-        (λ count all. (length all ≡ length workers.old) × ((i : ℕ) (d : Worker T L N K T.Terms L.Conn) → i < length workers.old →
+        × Service T.terms T.stands T.came T.legal gate first f.value f.calls f.own
+        (λ past all. (length all ≡ length workers.old) × ((i : ℕ) (d : Worker T L N K T.Terms L.Conn) → i < length workers.old →
         let a = slice_index_or workers.old i d in let b = slice_index_or workers.new i d in
         Shift L.Conn.sides config.now gate first (draw_at draw_key i)
         (work (L.told a.door) (L.faults a.door) (N.exchanges a.dial) (N.faults a.dial) (N.delivers a.dial) a.draw (K.given a.clock) a.pass a.end)
         (work (L.told b.door) (L.faults b.door) (N.exchanges b.dial) (N.faults b.dial) (N.delivers b.dial) b.draw (K.given b.clock) b.pass b.end)
-        (slice_index_or all i []) count))) }
+        (slice_index_or all i []) past))) }
     // How the workers ended: a fault of a door where one of them had it.
     ensures ended { IfOk result (λ f. f.rounds ≡ Rounds.Ended → (i : ℕ) (d : Worker T L N K T.Terms L.Conn) → i < length workers.new → (slice_index_or workers.new i d).end ≡ Rounds.Ended) }
     ensures fault { IfOk result (λ f. f.rounds ≡ Rounds.DoorFault → (i : ℕ) × (i < length workers.new) × ((d : Worker T L N K T.Terms L.Conn) → (slice_index_or workers.new i d).end ≡ Rounds.DoorFault)) }

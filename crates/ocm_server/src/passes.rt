@@ -3,19 +3,18 @@
 ghost use Rattle.std.specs.Prelude.{◌≡◌, ◌<◌, ◌≤◌, ◌+◌, ◌-◌, ℕ, None, Some, All, map, max, length, slice_index_or};
 ghost use Rattle.ocm_turn.specs.Calls.{merged};
 ghost use Rattle.ocm_turn.specs.Passes.{BelongsTo, SameGround, all_parts};
-ghost use Rattle.ocm_server.specs.Objects.{beginner, draw_at, drawn_of, gathered, mine_of, parts_of};
+ghost use Rattle.ocm_server.specs.Objects.{beginner, draw_at, drawn_of, gathered, mine_of, parts_of, past_of, IsOlder, Knows};
 ghost use Rattle.ocm_server.specs.Visits.{Owns};
 
 use crate::doors::Door;
 use crate::workers::Worker;
 use ocm_base::Clock;
-use ocm_entry::Object;
 use ocm_pump::Dial;
 use ocm_server_connections::{Draw, Node};
-use ocm_turn::Pass;
+use ocm_turn::{Dated, Pass};
 
 /// Gives a worker a pass that is split off, and a stream of drawn values.
-fn deal_one<T: Object, L: Door, N: Dial, K: Clock>(
+fn deal_one<T: Dated, L: Door, N: Dial, K: Clock>(
     node: &Node<T>,
     pass: &mut Pass<T>,
     worker: &mut Worker<T, L, N, K>,
@@ -32,7 +31,7 @@ fn deal_one<T: Object, L: Door, N: Dial, K: Clock>(
 }
 
 /// Gives each worker a pass that is split off the first, and a stream of drawn values of its own, by its place.
-pub(crate) fn deal<T: Object, L: Door, N: Dial, K: Clock>(
+pub(crate) fn deal<T: Dated, L: Door, N: Dial, K: Clock>(
     node: &Node<T>,
     pass: &mut Pass<T>,
     workers: &mut [Worker<T, L, N, K>],
@@ -51,7 +50,7 @@ pub(crate) fn deal<T: Object, L: Door, N: Dial, K: Clock>(
 }
 
 /// Takes a worker's pass, and joins it to another.
-fn gather_one<T: Object, L: Door, N: Dial, K: Clock>(
+fn gather_one<T: Dated, L: Door, N: Dial, K: Clock>(
     node: &Node<T>,
     pass: &mut Pass<T>,
     worker: &mut Worker<T, L, N, K>,
@@ -63,6 +62,8 @@ fn gather_one<T: Object, L: Door, N: Dial, K: Clock>(
     ensures mine { pass.new.mine ≡ merged pass.old.mine (mine_of worker.old.pass) }
     ensures drawn { pass.new.drawn ≡ max pass.old.drawn (drawn_of worker.old.pass) }
     ensures parts { pass.new.parts ≡ pass.old.parts + parts_of worker.old.pass }
+    ensures older { IsOlder (past_of pass.old) (past_of pass.new) }
+    ensures knows { Knows worker.old.pass (past_of pass.new) }
     ensures worker { worker.new ≡ record worker.old { pass = None } }
 {
     let taken = worker.pass.take();
@@ -71,7 +72,7 @@ fn gather_one<T: Object, L: Door, N: Dial, K: Clock>(
 }
 
 /// Takes each worker's pass, and joins all of them to one.
-pub(crate) fn gather<T: Object, L: Door, N: Dial, K: Clock>(
+pub(crate) fn gather<T: Dated, L: Door, N: Dial, K: Clock>(
     node: &Node<T>,
     pass: &mut Pass<T>,
     workers: &mut [Worker<T, L, N, K>],
@@ -84,6 +85,7 @@ pub(crate) fn gather<T: Object, L: Door, N: Dial, K: Clock>(
     ensures mine { pass.new.mine ≡ gathered pass.old.mine (map (λ w. mine_of w.pass) workers.old) }
     ensures drawn { (i : ℕ) (d : Worker T L N K T.Terms L.Conn) → i < length workers.old → drawn_of (slice_index_or workers.old i d).pass ≤ pass.new.drawn }
     ensures parts { pass.new.parts ≡ pass.old.parts + length workers.old }
+    ensures knows { (i : ℕ) (d : Worker T L N K T.Terms L.Conn) → i < length workers.old → Knows (slice_index_or workers.old i d).pass (past_of pass.new) }
     ensures taken { (i : ℕ) (d : Worker T L N K T.Terms L.Conn) → i < length workers.old →
         slice_index_or workers.new i d ≡ record (slice_index_or workers.old i d) { pass = None } }
 {

@@ -10,11 +10,10 @@ ghost use Rattle.ocm_server.specs.Visits.{Behind, Comes, Serves, Owns, Worked, e
 use crate::doors::Door;
 use ocm_base::Clock;
 use ocm_dav::Config;
-use ocm_entry::Object;
 use ocm_pump::Dial;
 use ocm_server_connections::{Conn, Draw, Node, serve_conn};
 use ocm_server_rounds::{Pumped, pump_round};
-use ocm_turn::Pass;
+use ocm_turn::{Dated, Pass};
 use std::alloc::Global;
 use std::sync::Wait;
 use std::thread::{Threads, for_each_mut};
@@ -29,7 +28,7 @@ pub enum Rounds {
 }
 
 /// Makes a round of delivery where the worker's dial makes exchanges, and else no call.
-fn round_behind<T: Object, N: Dial, R: Wait>(
+fn round_behind<T: Dated, N: Dial, R: Wait>(
     rt: &R,
     alloc: Global,
     node: &Node<T>,
@@ -50,7 +49,7 @@ fn round_behind<T: Object, N: Dial, R: Wait>(
 }
 
 /// Serves one connection, hands it back, and makes one round of delivery where the worker's dial makes exchanges.
-fn serve_visit<T: Object, L: Door, N: Dial, K: Clock, R: Wait>(
+fn serve_visit<T: Dated, L: Door, N: Dial, K: Clock, R: Wait>(
     rt: &R,
     alloc: Global,
     config: &Config,
@@ -77,7 +76,7 @@ fn serve_visit<T: Object, L: Door, N: Dial, K: Clock, R: Wait>(
 }
 
 /// Serves the connections of a door one after another.
-fn serve_door<T: Object, L: Door, N: Dial, K: Clock, R: Wait>(
+fn serve_door<T: Dated, L: Door, N: Dial, K: Clock, R: Wait>(
     rt: &R,
     alloc: Global,
     config: &Config,
@@ -111,7 +110,7 @@ fn serve_door<T: Object, L: Door, N: Dial, K: Clock, R: Wait>(
 }
 
 /// A worker: its door, its dial, its stream of drawn values, its pass, how it ended, and its clock.
-pub struct Worker<T: Object, L: Door, N: Dial, K: Clock> {
+pub struct Worker<T: Dated, L: Door, N: Dial, K: Clock> {
     pub door: L,
     pub dial: N,
     pub draw: Draw,
@@ -120,8 +119,7 @@ pub struct Worker<T: Object, L: Door, N: Dial, K: Clock> {
     pub clock: K,
 }
 
-impl<T: Object + Drop, L: Door + Drop, N: Dial + Drop, K: Clock + Drop> Drop
-    for Worker<T, L, N, K> {
+impl<T: Dated + Drop, L: Door + Drop, N: Dial + Drop, K: Clock + Drop> Drop for Worker<T, L, N, K> {
     fn drop(self) {
         let Worker {
             door: _,
@@ -134,7 +132,7 @@ impl<T: Object + Drop, L: Door + Drop, N: Dial + Drop, K: Clock + Drop> Drop
     }
 }
 
-impl<T: Object, L: Door, N: Dial, K: Clock> Worker<T, L, N, K> {
+impl<T: Dated, L: Door, N: Dial, K: Clock> Worker<T, L, N, K> {
     /// A worker without a pass, which has not begun.
     pub fn new(door: L, dial: N, draw: Draw, clock: K) -> Worker<T, L, N, K>
         ensures { result ≡ record { door = door; dial = dial; draw = draw; pass = None; end = Rounds.Ended; clock = clock } }
@@ -153,7 +151,7 @@ impl<T: Object, L: Door, N: Dial, K: Clock> Worker<T, L, N, K> {
 /// Serves the connections of the worker's door one after another: each to its ending, whatever that is, and then makes a
 /// round of delivery where the worker's dial makes exchanges. It ends where the door comes to its end or fails. It waits for its turns, and its return is not
 /// promised.
-pub fn serve_worker<T: Object, L: Door, N: Dial, K: Clock, R: Wait>(
+pub fn serve_worker<T: Dated, L: Door, N: Dial, K: Clock, R: Wait>(
     rt: &R,
     alloc: Global,
     config: &Config,
@@ -184,7 +182,7 @@ pub fn serve_worker<T: Object, L: Door, N: Dial, K: Clock, R: Wait>(
 }
 
 /// How workers ended: a fault of a door where one of them had it.
-fn rounds_of<T: Object, L: Door, N: Dial, K: Clock>(workers: &[Worker<T, L, N, K>]) -> Rounds
+fn rounds_of<T: Dated, L: Door, N: Dial, K: Clock>(workers: &[Worker<T, L, N, K>]) -> Rounds
     ensures ended { result ≡ Rounds.Ended → (i : ℕ) (d : Worker T L N K T.Terms L.Conn) → i < length workers.now → (slice_index_or workers.now i d).end ≡ Rounds.Ended }
     ensures fault { result ≡ Rounds.DoorFault → (i : ℕ) × (i < length workers.now) × ((d : Worker T L N K T.Terms L.Conn) → (slice_index_or workers.now i d).end ≡ Rounds.DoorFault) }
 {
@@ -199,7 +197,7 @@ fn rounds_of<T: Object, L: Door, N: Dial, K: Clock>(workers: &[Worker<T, L, N, K
 /// Runs every worker, each in a thread of its own, and waits for all of them. It answers DoorFault where a worker's door
 /// failed. Its return is not promised.
 pub fn serve_all<
-    T: Object + Send,
+    T: Dated + Send,
     L: Door + Send,
     N: Dial + Send,
     K: Clock + Send,

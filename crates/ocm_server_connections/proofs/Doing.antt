@@ -1,17 +1,11 @@
 -- One deed after another.
-use Rattle.std.proofs.Common.{◌≡◌, ℕ, ◌+◌, ◌≤◌, ◌++◌, List, [], ◌∷◌, Option, Some, None, sym, refl, ap, subst, append-nil, arith}
-use Rattle.std.specs.Prelude.{map}
-use Rattle.std.proofs.lemmas.List.{map-append}
+use Rattle.std.proofs.Common.{ℕ, ◌++◌, List, [], ◌∷◌, Option, Some, None, sym, refl, ap, subst, append-nil, append_assoc, arith}
 use Rattle.rand_chacha.specs.ChaCha.{ChaCha}
 use Rattle.ocm_base.specs.Outside.{Appends, Takes}
 use Rattle.ocm_base.proofs.Pieces.{Appends-twice, Takes-twice}
-use Rattle.ocm_entry.specs.declared.entries.Entry.{Entry}
-use Rattle.ocm_turn.specs.declared.view.Call.{Call}
-use Rattle.ocm_turn.specs.Calls.{IsOlderPart, entries}
-use Rattle.ocm_turn.specs.Passes.{Known, SameGround}
 use Rattle.ocm_server_connections.specs.Drawing.{Draws, moved}
 use Rattle.ocm_turn.proofs.MoveLemmas.{moved_nothing, moved_then}
-use Rattle.ocm_server_connections.specs.Sides.{Sides}
+use Rattle.ocm_server_connections.specs.Sides.{Noted, Notes}
 use Rattle.ocm_server_connections.specs.Parts.{State, Deeds, Does}
 
 pub takes_nothing : (a : Option (List ℕ)) → Takes a a []
@@ -22,13 +16,21 @@ pub appends_nothing : (a : Option (List ℕ)) → Appends a a []
 appends_nothing (Some held) = ap Some (sym (append-nil held))
 appends_nothing None = refl
 
+pub notes_nothing : (a : Option (List Noted)) → Notes a a []
+notes_nothing (Some before) = ap Some (sym (append-nil before))
+notes_nothing None = refl
+
+notes_then : (a b c : Option (List Noted)) (x y : List Noted) → Notes a b x → Notes b c y → Notes a c (x ++ y)
+notes_then None b c x y h k = rw (k, h) refl
+notes_then (Some before) b c x y h k = rw (k, h, append_assoc) refl
+
 pub draws_then : (g h k : ChaCha) (x y : List (List ℕ)) → Draws g x h → Draws h y k → Draws g (x ++ y) k
 draws_then g h k [] y p q = subst (λ (z : ChaCha). Draws z y k) p q
 draws_then g h k (fresh ∷ x) y p q = (p.0, draws_then (moved g) h k x y p.1 q)
 
 -- no deeds
 abbrev pub nothing : Deeds
-nothing = record { read = []; drawn = []; clocks = []; calls = []; written = [] }
+nothing = record { read = []; drawn = []; clocks = []; calls = []; written = []; noted = [] }
 
 -- deeds, and then others
 abbrev pub both : Deeds → Deeds → Deeds
@@ -38,6 +40,7 @@ both x y = record {
   clocks = x.clocks ++ y.clocks;
   calls = y.calls ++ x.calls;
   written = x.written ++ y.written;
+  noted = x.noted ++ y.noted;
 }
 
 module _ {Terms : Type 0} where
@@ -45,6 +48,7 @@ module _ {Terms : Type 0} where
   does_nothing a = record {
     read = takes_nothing a.sides.left;
     written = appends_nothing a.sides.taken;
+    noted = notes_nothing a.sides.noted;
     read_faults = omega arith;
     write_faults = omega arith;
     drawn = refl;
@@ -56,6 +60,7 @@ module _ {Terms : Type 0} where
   does_then a b c x y p q = record {
     read = Takes-twice a.sides.left b.sides.left c.sides.left x.read y.read p.read q.read;
     written = Appends-twice a.sides.taken b.sides.taken c.sides.taken x.written y.written p.written q.written;
+    noted = notes_then a.sides.noted b.sides.noted c.sides.noted x.noted y.noted p.noted q.noted;
     read_faults = omega (arith, p.read_faults, q.read_faults);
     write_faults = omega (arith, p.write_faults, q.write_faults);
     drawn = draws_then a.draw b.draw c.draw x.drawn y.drawn p.drawn q.drawn;

@@ -1,5 +1,5 @@
 -- Replies to what requests ask have pages.
-use Rattle.std.proofs.Common.{◌≡◌, ◌≤◌, ℕ, Bool, true, false, List, ◌∷◌, length, Result, Ok, Err, refl, subst}
+use Rattle.std.proofs.Common.{◌≡◌, Bool, true, false, List, ◌∷◌, length, Result, Ok, Err, refl, subst}
 use Rattle.std.specs.Prelude.{◌||◌, IfOk, IsTrue}
 use Rattle.ocm_entry.specs.Fitting.{Fits, is_due, is_settle}
 use Rattle.ocm_entry.specs.declared.asks.Ask.{Ask}

@@ -1,5 +1,5 @@
 -- One message answered.
-use Rattle.std.proofs.Common.{◌≡◌, ℕ, ◌+◌, ◌≤◌, ◌++◌, List, [], ◌∷◌, length, Bool, true, false, Option, Some, None, Result, Ok, Err, sym, refl, ap, subst, ◌∙◌, arith, inl, inr}
+use Rattle.std.proofs.Common.{◌≡◌, ℕ, List, [], ◌∷◌, true, false, Result, Ok, Err, sym, refl, ap, subst, inl, inr}
 use Rattle.std.specs.Prelude.{IfOk, IfErr, OnErr, IsTrue}
 use Rattle.ocm_entry.specs.declared.asks.Ask.{Ask}
 use Rattle.ocm_entry.specs.declared.asks.Ask.TheVariants.{Tick}
@@ -11,10 +11,9 @@ use Rattle.ocm_dav_pages.specs.declared.shapes.Shape.{Shape}
 use Rattle.ocm_dav_pages.specs.Pages.{page_of}
 use Rattle.ocm_dav.specs.declared.wants.Wanted.{Wanted}
 use Rattle.ocm_dav.specs.declared.wants.Wanted.TheVariants as wants
-use Rattle.ocm_turn.specs.declared.view.Call.{Call}
 use Rattle.ocm_turn.specs.declared.turnstile.Spent.{Spent}
-use Rattle.ocm_turn.specs.Calls.{IsOlderPart, entry, call}
-use Rattle.ocm_turn.specs.Passes.{Known, SameGround}
+use Rattle.ocm_turn.specs.Calls.{entry}
+use Rattle.ocm_turn.specs.Passes.{Known}
 use Rattle.ocm_server_connections.specs.declared.endings.Missed.{Missed}
 use Rattle.ocm_server_connections.specs.declared.endings.Missed.TheVariants as misses
 use Rattle.ocm_turn.specs.Moves.{Moved}

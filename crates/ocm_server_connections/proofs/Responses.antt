@@ -1,6 +1,6 @@
 -- One message answered by an object.
-use Rattle.std.proofs.Common.{◌≡◌, List, ◌∷◌, Result, Ok, Err, sym, refl, subst, inl, inr}
-use Rattle.std.specs.Prelude.{IfOk, IsTrue}
+use Rattle.std.proofs.Common.{◌≡◌, List, Result, Ok, Err, refl, subst, inl, inr}
+use Rattle.std.specs.Prelude.{IfOk}
 use Rattle.ocm_texts.specs.declared.failures.NoMemory.{NoMemory}
 use Rattle.ocm_entry.specs.declared.asks.Ask.{Ask}
 use Rattle.ocm_entry.specs.declared.entries.Entry.{Entry}

@@ -1,10 +1,10 @@
 -- What is said, message by message.
 use Rattle.std.proofs.Common.{◌≡◌, ◌≢◌, ℕ, ◌+◌, ◌≤◌, ◌++◌, List, [], ◌∷◌, length, Bool, true, false, if◌then◌else◌, Option, Some, None, Result, Ok, Err, sym, refl, ap, subst, ◌∙◌, append_assoc, append-nil, arith, inl, inr, eq-eqb, ne_eqb}
-use Rattle.std.specs.Prelude.{◌^◌, min, option_map, IsTrue, IfSome, IfNone}
+use Rattle.std.specs.Prelude.{IsTrue, IfSome, IfNone}
 use Rattle.ocm_base.specs.Outside.{Appends, Takes, Rose}
 use Rattle.ocm_entry.specs.declared.entries.Entry.{Entry}
 use Rattle.ocm_http.specs.Places.{past}
-use Rattle.ocm_http.specs.Frames.{Frame, Given, Refused, Over, IsFrame}
+use Rattle.ocm_http.specs.Frames.{Given, Refused, Over, IsFrame}
 use Rattle.ocm_http.specs.Readers.{ReaderState}
 use Rattle.ocm_http.specs.declared.messages.Kind.TheVariants.{Requests}
 use Rattle.ocm_http_heads.specs.declared.fields.Head.{Head}
@@ -24,39 +24,65 @@ use Rattle.ocm_dav.specs.Routes.{wanted_of}
 use Rattle.ocm_http.specs.Messages.{IsRequest}
 use Rattle.ocm_server_connections.specs.Drawing.{Draws, value_of, moved}
 use Rattle.ocm_turn.specs.Moves.{Moved, Unspent}
-use Rattle.ocm_server_connections.specs.Sides.{Sides, Read, Wrote, IsEnd, IsOpen, IsRequests, Gives, GivesOf, GivesMessage, GivesFault}
+use Rattle.ocm_server_connections.specs.Sides.{Sides, Read, Wrote, IsEnd, IsOpen, IsRequests, Gives, GivesOf, GivesMessage, GivesFault, Noted, Notes, as_fixed, as_page, newest_of, noted_page}
+use Rattle.ocm_server_connections.specs.Noting.{SaidAt, NotedBy, IsSound, NotedLast, noted_as}
 use Rattle.ocm_server_connections.specs.Talk as talks
 use Rattle.ocm_server_connections.specs.Talk.{Talk, Shown, Stops, EndsWith, is_spent, Breaks, Tries, bad, no_memory, place_of, wanted_at, counted, ending_after, Answers}
-use Rattle.ocm_server_connections.specs.Parts.{State, state, Deeds, Does, Stand, stand, Leads, Went, Shows, TalkedFrom, Talked, Goes, Served, Finishes, Writing, Refuses, RefusesAt}
-use Rattle.ocm_turn.proofs.MoveLemmas.{moved_nothing, unspent_nothing, unspent_then}
+use Rattle.ocm_server_connections.specs.Parts.{State, state, Deeds, Does, Stand, stand, Leads, Went, TalkedFrom, Talked, Goes, Served, Finishes, Writing, Refuses, RefusesAt}
+use Rattle.ocm_turn.proofs.MoveLemmas.{moved_nothing, moved_then, unspent_nothing, unspent_then}
 use Rattle.ocm_server_connections.proofs.Causes.{stops_cause, ends_cause}
-use Rattle.ocm_server_connections.proofs.Doing.{nothing, both, does_nothing, does_then, appends_nothing, takes_nothing}
+use Rattle.ocm_server_connections.proofs.Doing.{nothing, both, does_nothing, does_then, appends_nothing, notes_nothing, takes_nothing}
 
 -- the same lists say the same
-talk_same : (config : Config) (shown : Shown) (number place : ℕ) (ended : Bool) (ending : Ended)
-    (b b' : List ℕ) (f f' : List (List ℕ)) (t t' : List ℕ) (c c' : List Entry) (w w' : List ℕ)
-    → b ≡ b' → f ≡ f' → t ≡ t' → c ≡ c' → w ≡ w'
-    → Talk config shown number place b ended f t c w ending → Talk config shown number place b' ended f' t' c' w' ending
-talk_same config shown number place ended ending b b' f f' t t' c c' w w' p q r s u said =
-    subst (λ (z : List ℕ × List (List ℕ) × List ℕ × List Entry × List ℕ). Talk config shown number place z.0 ended z.1 z.2 z.3 z.4 ending) (λ i. (p i, q i, r i, s i, u i)) said
+said_same : (K : List Entry → List ℕ → Type 0) (config : Config) (shown : Shown) (number place : ℕ) (ended : Bool) (ending : Ended)
+    (a a' : List Entry) (b b' : List ℕ) (f f' : List (List ℕ)) (t t' : List ℕ) (c c' : List Entry) (w w' : List ℕ) (m m' : List Noted)
+    → a ≡ a' → b ≡ b' → f ≡ f' → t ≡ t' → c ≡ c' → w ≡ w' → m ≡ m'
+    → SaidAt K a config shown number place b ended f t c w m ending → SaidAt K a' config shown number place b' ended f' t' c' w' m' ending
+said_same K config shown number place ended ending a a' b b' f f' t t' c c' w w' m m' o p q r s u v said =
+    subst (λ (z : List Entry × List ℕ × List (List ℕ) × List ℕ × List Entry × List ℕ × List Noted). SaidAt K z.0 config shown number place z.1 ended z.2 z.3 z.4 z.5 z.6 ending)
+    (λ i. (o i, p i, q i, r i, s i, u i, v i)) said
 
-pub leads_nothing : (config : Config) (at : Stand) → Leads config at at nothing
-leads_nothing config at shown more ended drawn clocks calls written ending said =
-    talk_same config shown at.number at.place ended ending _ _ _ _ _ _ calls (calls ++ []) _ _ refl refl refl (sym (append-nil calls)) refl said
+-- a message that ends the connection
+noted_last : (K : List ℕ → Type 0) (written : List ℕ) (answer : Result Page Missed) (moments : List ℕ) → K moments → NotedLast K written answer (noted_as answer moments written)
+noted_last K written (Ok page) moments k = (moments, refl, k)
+noted_last K written (Err missed) moments k = refl
 
-pub leads_then : (config : Config) (a b c : Stand) (x y : Deeds) → Leads config a b x → Leads config b c y → Leads config a c (both x y)
-leads_then config a b c x y p q shown more ended drawn clocks calls written ending said =
-    talk_same config shown a.number a.place ended ending
-    (a.held ++ (x.read ++ (y.read ++ more))) (a.held ++ ((x.read ++ y.read) ++ more))
-    (x.drawn ++ (y.drawn ++ drawn)) ((x.drawn ++ y.drawn) ++ drawn)
-    (x.clocks ++ (y.clocks ++ clocks)) ((x.clocks ++ y.clocks) ++ clocks)
-    ((calls ++ y.calls) ++ x.calls) (calls ++ (y.calls ++ x.calls))
-    (x.written ++ (y.written ++ written)) ((x.written ++ y.written) ++ written)
-    (ap (λ (l : List ℕ). a.held ++ l) (sym (append_assoc x.read y.read more)))
-    (sym (append_assoc x.drawn y.drawn drawn)) (sym (append_assoc x.clocks y.clocks clocks))
-    (append_assoc calls y.calls x.calls) (sym (append_assoc x.written y.written written))
-    (p shown (y.read ++ more) ended (y.drawn ++ drawn) (y.clocks ++ clocks) (calls ++ y.calls) (y.written ++ written) ending
-    (q shown more ended drawn clocks calls written ending said))
+module _ {Terms : Type 0} where
+  -- what is noted behind these calls
+  noted_now : (first old new final : Known Terms) (before calls later : List Entry) → Moved first old before → Moved old new calls → Moved new final later → IsSound new
+      → NotedBy first final (calls ++ before) (newest_of new.moments)
+  noted_now first old new final before calls later made moved makes sound = record {
+    pass = new;
+    made = moved_then first old new before calls made moved;
+    later = later;
+    makes = makes;
+    sound = sound;
+    newest = refl;
+  }
+
+  pub leads_nothing : (config : Config) (at : Stand) (old : Known Terms) → Leads config at at old old nothing
+  leads_nothing config at old first final before later made makes shown more ended drawn clocks calls written noted ending said =
+      said_same (NotedBy first final) config shown at.number at.place ended ending _ _ _ _ _ _ _ _ calls (calls ++ []) _ _ _ _ refl refl refl refl (sym (append-nil calls)) refl refl said
+
+  pub leads_then : (config : Config) (a b c : Stand) (s t u : Known Terms) (x y : Deeds) → Moved s t x.calls → Moved t u y.calls → Leads config a b s t x → Leads config b c t u y → Leads config a c s u (both x y)
+  leads_then config a b c s t u x y sx ty p q first final before later made makes shown more ended drawn clocks calls written noted ending said =
+      said_same (NotedBy first final) config shown a.number a.place ended ending
+      before before
+      (a.held ++ (x.read ++ (y.read ++ more))) (a.held ++ ((x.read ++ y.read) ++ more))
+      (x.drawn ++ (y.drawn ++ drawn)) ((x.drawn ++ y.drawn) ++ drawn)
+      (x.clocks ++ (y.clocks ++ clocks)) ((x.clocks ++ y.clocks) ++ clocks)
+      ((calls ++ y.calls) ++ x.calls) (calls ++ (y.calls ++ x.calls))
+      (x.written ++ (y.written ++ written)) ((x.written ++ y.written) ++ written)
+      (x.noted ++ (y.noted ++ noted)) ((x.noted ++ y.noted) ++ noted)
+      refl (ap (λ (l : List ℕ). a.held ++ l) (sym (append_assoc x.read y.read more)))
+      (sym (append_assoc x.drawn y.drawn drawn)) (sym (append_assoc x.clocks y.clocks clocks))
+      (append_assoc calls y.calls x.calls) (sym (append_assoc x.written y.written written)) (sym (append_assoc x.noted y.noted noted))
+      (p first final before (later ++ y.calls) made (moved_then t u final y.calls later ty makes)
+      shown (y.read ++ more) ended (y.drawn ++ drawn) (y.clocks ++ clocks) (calls ++ y.calls) (y.written ++ written) (y.noted ++ noted) ending
+      (q first final (x.calls ++ before) later (moved_then first s t before x.calls made sx) makes shown more ended drawn clocks calls written noted ending
+      (said_same (NotedBy first final) config shown c.number c.place ended ending
+      ((y.calls ++ x.calls) ++ before) (y.calls ++ (x.calls ++ before)) _ _ _ _ _ _ _ _ _ _ _ _
+      (append_assoc y.calls x.calls before) refl refl refl refl refl refl said)))
 
 pub false_true : IsTrue false → ⊥
 false_true h = cc
@@ -69,11 +95,11 @@ rose_later a b c le rose = omega (arith, le, rose)
 rose_before : (a b c : ℕ) → Rose a b → b ≤ c → Rose a c
 rose_before a b c rose le = omega (arith, le, rose)
 
-pub wrote_nothing : (s : Sides) → Wrote s s []
-wrote_nothing s = record { left = refl; taken = appends_nothing s.taken; read_faults = omega arith; write_faults = omega arith }
+pub wrote_nothing : (s : Sides) → Wrote s s [] []
+wrote_nothing s = record { left = refl; taken = appends_nothing s.taken; noted = notes_nothing s.noted; read_faults = omega arith; write_faults = omega arith }
 
 pub read_nothing : (s t : Sides) → t ≡ s → Read s t []
-read_nothing s t e = subst (λ (z : Sides). Read s z []) (sym e) (record { left = takes_nothing s.left; taken = refl; read_faults = omega arith; write_faults = omega arith })
+read_nothing s t e = subst (λ (z : Sides). Read s z []) (sym e) (record { left = takes_nothing s.left; taken = refl; noted = refl; read_faults = omega arith; write_faults = omega arith })
 
 unspent_by : (failed : Bool) (after : Option Ended) (answer : Result Page Missed) (written : List ℕ) (ending : Ended) → EndsWith failed after answer written ending → ending ≢ endings.Spent → is_spent answer ≡ false
 unfolding EndsWith
@@ -83,14 +109,14 @@ unspent_by failed after (Err misses.NoMemory) written ending ends h = refl
 
 module _ {Terms : Type 0} where
   pub went_nothing : (config : Config) (limit : ℕ) (at : Stand) (a : State Terms) → Went config limit at at a a
-  went_nothing config limit at a = record { deeds = nothing; does = does_nothing a; unspent = unspent_nothing limit a.pass; leads = leads_nothing config at }
+  went_nothing config limit at a = record { deeds = nothing; does = does_nothing a; unspent = unspent_nothing limit a.pass; leads = leads_nothing config at a.pass }
 
   pub went_then : (config : Config) (limit : ℕ) (a b c : Stand) (s t u : State Terms) → Went config limit a b s t → Went config limit b c t u → Went config limit a c s u
   went_then config limit a b c s t u p q = record {
     deeds = both p.deeds q.deeds;
     does = does_then s t u p.deeds q.deeds p.does q.does;
     unspent = unspent_then limit s.pass t.pass u.pass p.deeds.calls q.deeds.calls p.unspent q.unspent;
-    leads = leads_then config a b c p.deeds q.deeds p.leads q.leads;
+    leads = leads_then config a b c s.pass t.pass u.pass p.deeds q.deeds p.does.calls q.does.calls p.leads q.leads;
   }
 
   -- what is said from a later stand on is said from the first
@@ -108,24 +134,28 @@ module _ {Terms : Type 0} where
       spent = q.shows.spent;
     };
     cause = q.cause;
-    talk = p.leads q.shown q.deeds.read q.ended q.deeds.drawn q.deeds.clocks q.deeds.calls q.deeds.written ending q.talk;
+    told = λ first before made.
+        p.leads first u.pass before q.deeds.calls made q.does.calls q.shown q.deeds.read q.ended q.deeds.drawn q.deeds.clocks q.deeds.calls q.deeds.written q.deeds.noted ending
+        (q.told first (p.deeds.calls ++ before) (moved_then first s.pass t.pass before p.deeds.calls made p.does.calls));
   }
 
   -- at the start of a connection
   pub talked_whole : (config : Config) (limit : ℕ) (from : Stand) (s u : State Terms) (ending : Ended) → from ≡ record { number = 0; place = 0; held = [] } → TalkedFrom config limit from s u ending → Talked config limit s u ending
   talked_whole config limit from s u ending e q =
-      let at = subst (λ (f : Stand). TalkedFrom config limit f s u ending) e q in
-      record { deeds = at.deeds; does = at.does; unspent = at.unspent; ended = at.ended; is_end = at.is_end; shown = at.shown; shows = at.shows; cause = at.cause; talk = at.talk }
+      let whole = subst (λ (f : Stand). TalkedFrom config limit f s u ending) e q in
+      let told = whole.told s.pass [] (moved_nothing s.pass) in
+      record { deeds = whole.deeds; does = whole.does; unspent = whole.unspent; ended = whole.ended; is_end = whole.is_end; shown = whole.shown; shows = whole.shows; cause = whole.cause; talk = told.0; at = told.1 }
 
   -- ---- one message
 
   module _ (config : Config) (limit number : ℕ) (reader after : ReaderState) (message : Message) (got : List ℕ) (old new : State Terms) (middle : Sides) (gives : GivesMessage reader after got message) (read : Read old.sides middle got) where
-    does_of : (fresh : List ℕ) (now : ℕ) (calls : List Entry) (written : List ℕ)
-        → Draws old.draw (fresh ∷ []) new.draw → Appends old.clock new.clock (now ∷ []) → Moved old.pass new.pass calls → Wrote middle new.sides written
-        → Does old new (record { read = got; drawn = fresh ∷ []; clocks = now ∷ []; calls = calls; written = written })
-    does_of fresh now calls written draws clock made wrote = record {
+    does_of : (fresh : List ℕ) (now : ℕ) (calls : List Entry) (written : List ℕ) (noted : List Noted)
+        → Draws old.draw (fresh ∷ []) new.draw → Appends old.clock new.clock (now ∷ []) → Moved old.pass new.pass calls → Wrote middle new.sides written noted
+        → Does old new (record { read = got; drawn = fresh ∷ []; clocks = now ∷ []; calls = calls; written = written; noted = noted })
+    does_of fresh now calls written noted draws clock made wrote = record {
       read = subst (λ (l : Option (List ℕ)). Takes old.sides.left l got) (sym wrote.left) read.left;
       written = subst (λ (l : Option (List ℕ)). Appends l new.sides.taken written) read.taken wrote.taken;
+      noted = subst (λ (l : Option (List Noted)). Notes l new.sides.noted noted) read.noted wrote.noted;
       read_faults = omega (arith, read.read_faults, wrote.read_faults);
       write_faults = omega (arith, read.write_faults, wrote.write_faults);
       drawn = draws;
@@ -133,19 +163,25 @@ module _ {Terms : Type 0} where
       calls = made;
     }
 
-    leads_message : (fresh : List ℕ) (now : ℕ) (calls : List Entry) (page : Page)
+    -- a message is answered, and then the rest is said
+    leads_message : (fresh : List ℕ) (now : ℕ) (calls : List Entry) (page : Page) → Moved old.pass new.pass calls → IsSound new.pass
         → Answers (wanted_at config number message fresh) now calls (Ok page) → ending_after number message ≡ None
-        → Leads config (stand number reader) (stand (number + 1) after) (record { read = got; drawn = fresh ∷ []; clocks = now ∷ []; calls = calls; written = page.bytes })
+        → Leads config (stand number reader) (stand (number + 1) after) old.pass new.pass
+        (record { read = got; drawn = fresh ∷ []; clocks = now ∷ []; calls = calls; written = page.bytes; noted = as_page (newest_of new.pass.moments) page.bytes })
     unfolding IsRequests
-    leads_message fresh now calls page answers none shown more ended drawn clocks later written ending said =
-        talk_same config shown number reader.place ended ending
-        ((reader.held ++ got) ++ more) (reader.held ++ (got ++ more)) _ _ _ _ _ _ _ _
-        (append_assoc reader.held got more) refl refl refl refl
-        (talks.next number reader.place ((reader.held ++ got) ++ more) gives.front (after.held ++ more) ended message fresh now calls page drawn clocks later written ending
-        (frame_stays Requests 1048576 reader.place (reader.held ++ got) more ended (Given message after.held) gives.frame tt)
-        (ap (λ (l : List ℕ). l ++ more) gives.split ∙ append_assoc gives.front after.held more)
-        answers none
-        (subst (λ (p : ℕ). Talk config shown (number + 1) p (after.held ++ more) ended drawn clocks later written ending) gives.place said))
+    leads_message fresh now calls page moved sound answers none first final before later made makes shown more ended drawn clocks others written noted ending said =
+        let newest = newest_of new.pass.moments in
+        let then_said = subst (λ (p : ℕ). SaidAt (NotedBy first final) (calls ++ before) config shown (number + 1) p (after.held ++ more) ended drawn clocks others written noted ending) gives.place said in
+        said_same (NotedBy first final) config shown number reader.place ended ending
+        before before ((reader.held ++ got) ++ more) (reader.held ++ (got ++ more)) (fresh ∷ drawn) (fresh ∷ drawn) (now ∷ clocks) (now ∷ clocks)
+        (others ++ calls) (others ++ calls) (page.bytes ++ written) (page.bytes ++ written) (noted_page page.bytes newest ∷ noted) (noted_page page.bytes newest ∷ noted)
+        refl (append_assoc reader.held got more) refl refl refl refl refl (
+          talks.next number reader.place ((reader.held ++ got) ++ more) gives.front (after.held ++ more) ended message fresh now calls page drawn clocks others written ending
+              (frame_stays Requests 1048576 reader.place (reader.held ++ got) more ended (Given message after.held) gives.frame tt)
+              (ap (λ (l : List ℕ). l ++ more) gives.split ∙ append_assoc gives.front after.held more)
+              answers none then_said.0,
+          (newest, noted, refl, noted_now first old.pass new.pass final before calls later made moved makes sound, then_said.1),
+        )
 
     pub goes_message : (result : Option Ended) → Served config limit number message (state middle old.draw old.clock old.pass) new result
         → Goes config limit (stand number reader) (stand (number + 1) after) old new result
@@ -153,16 +189,17 @@ module _ {Terms : Type 0} where
     goes_message None served =
         let f = served.finishes in
         record {
-          deeds = record { read = got; drawn = served.fresh ∷ []; clocks = served.now ∷ []; calls = served.calls; written = f.0.bytes };
-          does = does_of served.fresh served.now served.calls f.0.bytes served.drawn served.clock served.moved f.3;
+          deeds = record { read = got; drawn = served.fresh ∷ []; clocks = served.now ∷ []; calls = served.calls; written = f.0.bytes; noted = as_page (newest_of new.pass.moments) f.0.bytes };
+          does = does_of served.fresh served.now served.calls f.0.bytes (as_page (newest_of new.pass.moments) f.0.bytes) served.drawn served.clock served.moved f.3;
           unspent = served.unspent (ap is_spent f.1);
-          leads = leads_message served.fresh served.now served.calls f.0 (subst (λ (r : Result Page Missed). Answers (wanted_at config number message served.fresh) served.now served.calls r) f.1 served.answers) f.2;
+          leads = leads_message served.fresh served.now served.calls f.0 served.moved served.sound (subst (λ (r : Result Page Missed). Answers (wanted_at config number message served.fresh) served.now served.calls r) f.1 served.answers) f.2;
         }
     goes_message (Some ending) served =
         let f = served.finishes in
+        let noted = noted_as served.answer (newest_of new.pass.moments) f.written in
         record {
-          deeds = record { read = got; drawn = served.fresh ∷ []; clocks = served.now ∷ []; calls = served.calls; written = f.written };
-          does = does_of served.fresh served.now served.calls f.written served.drawn served.clock served.moved f.wrote;
+          deeds = record { read = got; drawn = served.fresh ∷ []; clocks = served.now ∷ []; calls = served.calls; written = f.written; noted = noted };
+          does = does_of served.fresh served.now served.calls f.written noted served.drawn served.clock served.moved f.wrote;
           unspent = λ h. served.unspent (unspent_by f.failed (ending_after number message) served.answer f.written ending f.is h);
           ended = false;
           is_end = λ h. absurd (false_true h);
@@ -173,16 +210,21 @@ module _ {Terms : Type 0} where
             spent = served.spent;
           };
           cause = ends_cause (record { read_rose = false; write_rose = f.failed; spent = is_spent served.answer }) number message served.answer f.written ending f.is refl;
-          talk = talks.last number reader.place (reader.held ++ got) after.held false message served.fresh served.now served.calls served.answer f.written ending gives.frame served.answers f.is refl;
+          told = λ first before made. (
+            talks.last number reader.place (reader.held ++ got) after.held false message served.fresh served.now served.calls served.answer f.written ending gives.frame served.answers f.is refl,
+            noted_last (NotedBy first new.pass (served.calls ++ before)) f.written served.answer (newest_of new.pass.moments)
+                (noted_now first old.pass new.pass new.pass before served.calls [] made served.moved (moved_nothing new.pass) served.sound),
+          );
         }
 
   -- ---- no message
 
-  quiet : (old : State Terms) (middle final : Sides) (got written : List ℕ) → Read old.sides middle got → Wrote middle final written
-      → Does old (state final old.draw old.clock old.pass) (record { read = got; drawn = []; clocks = []; calls = []; written = written })
+  quiet : (old : State Terms) (middle final : Sides) (got written : List ℕ) → Read old.sides middle got → Wrote middle final written []
+      → Does old (state final old.draw old.clock old.pass) (record { read = got; drawn = []; clocks = []; calls = []; written = written; noted = [] })
   quiet old middle final got written read wrote = record {
     read = subst (λ (l : Option (List ℕ)). Takes old.sides.left l got) (sym wrote.left) read.left;
     written = subst (λ (l : Option (List ℕ)). Appends l final.taken written) read.taken wrote.taken;
+    noted = subst (λ (l : Option (List Noted)). Notes l final.noted []) read.noted wrote.noted;
     read_faults = omega (arith, read.read_faults, wrote.read_faults);
     write_faults = omega (arith, read.write_faults, wrote.write_faults);
     drawn = refl;
@@ -192,14 +234,14 @@ module _ {Terms : Type 0} where
 
   module _ (config : Config) (limit number : ℕ) (reader : ReaderState) (old : State Terms) (middle final : Sides) (got : List ℕ) (read : Read old.sides middle got) where
     talked_silent : (written : List ℕ) (ended : Bool) (shown : Shown) (ending : Ended)
-        → Wrote middle final written → IsEnd middle ended
+        → Wrote middle final written [] → IsEnd middle ended
         → (IsTrue shown.read_rose → Rose old.sides.read_faults final.read_faults)
         → (IsTrue shown.write_rose → Rose middle.write_faults final.write_faults)
         → (IsTrue shown.spent → ⊥)
         → Stops shown reader.place (reader.held ++ got) ended written ending
         → TalkedFrom config limit (stand number reader) old (state final old.draw old.clock old.pass) ending
     talked_silent written ended shown ending wrote is_end read_rose write_rose spent stops = record {
-      deeds = record { read = got; drawn = []; clocks = []; calls = []; written = written };
+      deeds = record { read = got; drawn = []; clocks = []; calls = []; written = written; noted = [] };
       does = quiet old middle final got written read wrote;
       unspent = λ h. unspent_nothing limit old.pass;
       ended = ended;
@@ -211,14 +253,14 @@ module _ {Terms : Type 0} where
         spent = λ h. absurd (spent h);
       };
       cause = stops_cause shown reader.place (reader.held ++ got) ended written ending stops;
-      talk = talks.silent number reader.place (reader.held ++ got) ended written ending stops;
+      told = λ first before made. (talks.silent number reader.place (reader.held ++ got) ended written ending stops, refl);
     }
 
     -- what a connection shows that only wrote
     abbrev wrote_only : Bool → Shown
     wrote_only failed = record { read_rose = false; write_rose = failed; spent = false }
 
-    only_wrote : (written : List ℕ) (ended failed : Bool) (ending : Ended) → Wrote middle final written → IsEnd middle ended → (IsTrue failed → Rose middle.write_faults final.write_faults)
+    only_wrote : (written : List ℕ) (ended failed : Bool) (ending : Ended) → Wrote middle final written [] → IsEnd middle ended → (IsTrue failed → Rose middle.write_faults final.write_faults)
         → Stops (wrote_only failed) reader.place (reader.held ++ got) ended written ending
         → TalkedFrom config limit (stand number reader) old (state final old.draw old.clock old.pass) ending
     only_wrote written ended failed ending wrote is_end rose stops =
@@ -233,12 +275,12 @@ module _ {Terms : Type 0} where
         subst (λ (x : Ended). Stops (wrote_only failed) reader.place (reader.held ++ got) ended written x) (sym h.0) (h.1, fault, at, frame, e)
 
     talked_at : (fault : FrameFault) (at : ℕ) (ending : Ended) → place_of fault ≡ Some at → ((ended : Bool) × IsEnd middle ended × IsRequests reader.place (reader.held ++ got) ended (Refused fault))
-        → Writing middle final (λ failed written. RefusesAt at ending failed written)
+        → Writing middle final as_fixed (λ failed written. RefusesAt at ending failed written)
         → TalkedFrom config limit (stand number reader) old (state final old.draw old.clock old.pass) ending
     talked_at fault at ending e gives w =
         only_wrote w.written gives.0 w.failed ending w.wrote gives.1 w.rose (stops_at at gives.0 w.failed w.written fault ending e gives.2 w.is)
 
-    pub talked_fault : (fault : FrameFault) (ending : Ended) → GivesFault reader old.sides middle got fault → Writing middle final (λ failed written. Refuses fault ending failed written)
+    pub talked_fault : (fault : FrameFault) (ending : Ended) → GivesFault reader old.sides middle got fault → Writing middle final as_fixed (λ failed written. Refuses fault ending failed written)
         → TalkedFrom config limit (stand number reader) old (state final old.draw old.clock old.pass) ending
     unfolding GivesFault Refuses Stops
     talked_fault (faults.BadHead at) ending gives w = talked_at (faults.BadHead at) at ending refl gives w
@@ -268,7 +310,7 @@ module _ {Terms : Type 0} where
       only_wrote config limit number reader old final final got read [] true false endings.Closed (wrote_nothing final) is_end (λ h. absurd (false_true h)) (refl, frame)
 
   -- no memory for a reader
-  pub talked_none : (config : Config) (limit : ℕ) (old : State Terms) (final : Sides) → Writing old.sides final (λ failed written. Tries failed no_memory written)
+  pub talked_none : (config : Config) (limit : ℕ) (old : State Terms) (final : Sides) → Writing old.sides final as_fixed (λ failed written. Tries failed no_memory written)
       → Talked config limit old (state final old.draw old.clock old.pass) endings.NoMemory
   unfolding Stops
   talked_none config limit old final w =
@@ -293,10 +335,11 @@ pub serves_request : {Terms : Type 0} (config : Config) (limit number : ℕ) (me
     → ((calls : List Entry) × Moved old.pass new.pass calls × Answers (wanted_of config m fresh) now calls answer)
     → (IsTrue (is_spent answer) → limit ≤ new.pass.drawn)
     → ((calls : List Entry) → Moved old.pass new.pass calls → is_spent answer ≡ false → Unspent limit old.pass new.pass calls)
-    → Finishes old.sides new.sides answer after result
+    → IsSound new.pass
+    → Finishes old.sides new.sides answer (newest_of new.pass.moments) after result
     → Served config limit number message old new result
 unfolding wanted_at
-serves_request config limit number message m old new fresh now answer after result after_is m_is fresh_is draw_is clock_is did spent unspent finishes = record {
+serves_request config limit number message m old new fresh now answer after result after_is m_is fresh_is draw_is clock_is did spent unspent sound finishes = record {
   fresh = fresh;
   now = now;
   calls = did.0;
@@ -304,10 +347,11 @@ serves_request config limit number message m old new fresh now answer after resu
   drawn = (fresh_is, draw_is);
   clock = clock_is;
   moved = did.1;
+  sound = sound;
   spent = spent;
   unspent = unspent did.0 did.1;
   answers = subst (λ (x : Message). Answers (wanted_of config x fresh) now did.0 answer) m_is did.2;
-  finishes = subst (λ (x : Option Ended). Finishes old.sides new.sides answer x result) after_is finishes;
+  finishes = subst (λ (x : Option Ended). Finishes old.sides new.sides answer (newest_of new.pass.moments) x result) after_is finishes;
 }
 
 -- where a connection begins
@@ -343,7 +387,7 @@ module _ {Terms : Type 0} where
       talked_over config limit number reader old middle got.0 got.1 got.2.0 got.2.1
 
   pub goes_fault : (config : Config) (limit number : ℕ) (to : Stand) (reader after : ReaderState) (old : State Terms) (middle final : Sides) (r : Result (Option Message) FrameFault) (fault : FrameFault) (ending : Ended)
-      → Gives reader after old.sides middle r → r ≡ Err fault → Writing middle final (λ failed written. Refuses fault ending failed written)
+      → Gives reader after old.sides middle r → r ≡ Err fault → Writing middle final as_fixed (λ failed written. Refuses fault ending failed written)
       → Goes config limit (stand number reader) to old (state final old.draw old.clock old.pass) (Some ending)
   unfolding Goes GivesOf
   goes_fault config limit number to reader after old middle final r fault ending gives is writing =

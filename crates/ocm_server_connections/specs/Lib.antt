@@ -1,4 +1,5 @@
 pub mod Drawing
+pub mod Noting
 pub mod Parts
 pub mod Responding
 pub mod Sides

@@ -1,5 +1,5 @@
 -- Parts of what is said on a connection, and what they leave.
-use Rattle.std.specs.Prelude.{◌≡◌, ◌≢◌, ℕ, ◌≤◌, ◌⊎◌, Bool, true, false, List, [], ◌∷◌, ◌++◌, Option, Some, None, Result, Ok, Err, IsTrue}
+use Rattle.std.specs.Prelude.{◌≡◌, ◌≢◌, ℕ, ◌≤◌, ◌⊎◌, Bool, false, List, [], ◌∷◌, ◌++◌, Option, Some, None, Result, Ok, Err, IsTrue}
 use Rattle.rand_chacha.specs.ChaCha.{ChaCha}
 use Rattle.ocm_base.specs.Outside.{Rose, Appends, Takes}
 use Rattle.ocm_entry.specs.declared.asks.Ask.{Ask}
@@ -18,7 +18,8 @@ use Rattle.ocm_server_connections.specs.declared.endings.Ended.TheVariants as en
 use Rattle.ocm_server_connections.specs.declared.endings.Missed.{Missed}
 use Rattle.ocm_server_connections.specs.Drawing.{Draws}
 use Rattle.ocm_turn.specs.Moves.{Moved, Unspent}
-use Rattle.ocm_server_connections.specs.Sides.{Sides, Wrote, IsEnd, IsOpen}
+use Rattle.ocm_server_connections.specs.Sides.{Sides, Noted, Notes, Wrote, IsEnd, as_page, newest_of}
+use Rattle.ocm_server_connections.specs.Noting.{EachAt, SaidAt, NotedBy, IsSound, noted_as}
 use Rattle.ocm_server_connections.specs.Talk.{Shown, Talk, cause_of, Answers, wanted_at, ending_after, Replied, Unreplied, EndsWith, is_spent, Breaks, Tries, bad, no_memory, place_of}
 
 -- all that serving a connection changes: the connection, the stream of drawn values, the clock's values where they are told, and the pass
@@ -31,18 +32,20 @@ pub record State (Terms : Type 0) : Type 0 where
 abbrev pub state : {Terms : Type 0} → Sides → ChaCha → Option (List ℕ) → Known Terms → State Terms
 state sides draw clock pass = record { sides = sides; draw = draw; clock = clock; pass = pass }
 
--- what was read, drawn, taken of the clock, called (the newest first) and written
+-- what was read, drawn, taken of the clock, called (the newest first), written, and noted of the pages
 pub record Deeds : Type 0 where
   pub read : List ℕ
   pub drawn : List (List ℕ)
   pub clocks : List ℕ
   pub calls : List Entry
   pub written : List ℕ
+  pub noted : List Noted
 
 -- these deeds lead from one state to another
 pub record Does {Terms : Type 0} (old new : State Terms) (deeds : Deeds) : Type 0 where
   pub read : Takes old.sides.left new.sides.left deeds.read
   pub written : Appends old.sides.taken new.sides.taken deeds.written
+  pub noted : Notes old.sides.noted new.sides.noted deeds.noted
   pub read_faults : old.sides.read_faults ≤ new.sides.read_faults
   pub write_faults : old.sides.write_faults ≤ new.sides.write_faults
   pub drawn : Draws old.draw deeds.drawn new.draw
@@ -58,12 +61,13 @@ pub record Stand : Type 0 where
 abbrev pub stand : ℕ → ReaderState → Stand
 stand number reader = record { number = number; place = reader.place; held = reader.held }
 
--- whatever is said from the second stand on, is said with these deeds before it from the first on
-abbrev pub Leads : Config → Stand → Stand → Deeds → Type 0
-Leads config from to deeds =
-    (shown : Shown) (more : List ℕ) (ended : Bool) (drawn : List (List ℕ)) (clocks : List ℕ) (calls : List Entry) (written : List ℕ) (ending : Ended)
-    → Talk config shown to.number to.place (to.held ++ more) ended drawn clocks calls written ending
-    → Talk config shown from.number from.place (from.held ++ (deeds.read ++ more)) ended (deeds.drawn ++ drawn) (deeds.clocks ++ clocks) (calls ++ deeds.calls) (deeds.written ++ written) ending
+-- whatever is said from the second stand on, behind these calls and with these notes, is said with these deeds before it from the first on, whatever a pass did before the first state and does behind the second
+abbrev pub Leads : {Terms : Type 0} → Config → Stand → Stand → Known Terms → Known Terms → Deeds → Type 0
+Leads {Terms} config from to old new deeds =
+    (first final : Known Terms) (before later : List Entry) → Moved first old before → Moved new final later
+    → (shown : Shown) (more : List ℕ) (ended : Bool) (drawn : List (List ℕ)) (clocks : List ℕ) (calls : List Entry) (written : List ℕ) (noted : List Noted) (ending : Ended)
+    → SaidAt (NotedBy first final) (deeds.calls ++ before) config shown to.number to.place (to.held ++ more) ended drawn clocks calls written noted ending
+    → SaidAt (NotedBy first final) before config shown from.number from.place (from.held ++ (deeds.read ++ more)) ended (deeds.drawn ++ drawn) (deeds.clocks ++ clocks) (calls ++ deeds.calls) (deeds.written ++ written) (deeds.noted ++ noted) ending
 
 -- what a connection shows between two states, at a turnstile of this limit
 pub record Shows {Terms : Type 0} (limit : ℕ) (old new : State Terms) (shown : Shown) : Type 0 where
@@ -76,7 +80,7 @@ pub record Went {Terms : Type 0} (config : Config) (limit : ℕ) (from to : Stan
   pub deeds : Deeds
   pub does : Does old new deeds
   pub unspent : Unspent limit old.pass new.pass deeds.calls
-  pub leads : Leads config from to deeds
+  pub leads : Leads config from to old.pass new.pass deeds
 
 -- what is said from a stand on to an ending
 pub record TalkedFrom {Terms : Type 0} (config : Config) (limit : ℕ) (from : Stand) (old new : State Terms) (ending : Ended) : Type 0 where
@@ -88,7 +92,8 @@ pub record TalkedFrom {Terms : Type 0} (config : Config) (limit : ℕ) (from : S
   pub shown : Shown
   pub shows : Shows limit old new shown
   pub cause : IsTrue (cause_of shown ending)
-  pub talk : Talk config shown from.number from.place (from.held ++ deeds.read) ended deeds.drawn deeds.clocks deeds.calls deeds.written ending
+  pub told : (first : Known Terms) (before : List Entry) → Moved first old.pass before
+      → SaidAt (NotedBy first new.pass) before config shown from.number from.place (from.held ++ deeds.read) ended deeds.drawn deeds.clocks deeds.calls deeds.written deeds.noted ending
 
 -- a connection was served to an ending
 pub record Talked {Terms : Type 0} (config : Config) (limit : ℕ) (old new : State Terms) (ending : Ended) : Type 0 where
@@ -101,6 +106,7 @@ pub record Talked {Terms : Type 0} (config : Config) (limit : ℕ) (old new : St
   pub shows : Shows limit old new shown
   pub cause : IsTrue (cause_of shown ending)
   pub talk : Talk config shown 0 0 deeds.read ended deeds.drawn deeds.clocks deeds.calls deeds.written ending
+  pub at : EachAt (NotedBy old.pass new.pass) [] talk deeds.noted
 
 -- one message was answered, or ended the connection
 unfoldable pub Goes : {Terms : Type 0} → Config → ℕ → Stand → Stand → State Terms → State Terms → Option Ended → Type 0
@@ -114,18 +120,18 @@ unfoldable pub RepliedOr : Ask → ℕ → List Entry → Result Reply Spent →
 RepliedOr ask clock calls (Ok reply) = Replied ask clock calls reply
 RepliedOr ask clock calls (Err spent) = Unreplied clock calls
 
--- something was written of which this holds, where the connection failed or not
-pub record Writing (old new : Sides) (P : Bool → List ℕ → Type 0) : Type 0 where
+-- something was written of which this holds, where the connection failed or not, and what was noted is this of what was written
+pub record Writing (old new : Sides) (as_noted : List ℕ → List Noted) (P : Bool → List ℕ → Type 0) : Type 0 where
   pub written : List ℕ
   pub failed : Bool
-  pub wrote : Wrote old new written
+  pub wrote : Wrote old new written (as_noted written)
   pub rose : IsTrue failed → Rose old.write_faults new.write_faults
   pub is : P failed written
 
--- what a message came to was written
-unfoldable pub Finishes : Sides → Sides → Result Page Missed → Option Ended → Option Ended → Type 0
-Finishes old new answer after None = (page : Page) × (answer ≡ Ok page) × (after ≡ None) × Wrote old new page.bytes
-Finishes old new answer after (Some ending) = Writing old new (λ failed written. EndsWith failed after answer written ending)
+-- what a message came to was written, a page with these moments
+unfoldable pub Finishes : Sides → Sides → Result Page Missed → List ℕ → Option Ended → Option Ended → Type 0
+Finishes old new answer moments after None = (page : Page) × (answer ≡ Ok page) × (after ≡ None) × Wrote old new page.bytes (as_page moments page.bytes)
+Finishes old new answer moments after (Some ending) = Writing old new (noted_as answer moments) (λ failed written. EndsWith failed after answer written ending)
 
 -- what is written where bytes are refused at a place
 unfoldable pub RefusesAt : ℕ → Ended → Bool → List ℕ → Type 0
@@ -151,7 +157,8 @@ pub record Served {Terms : Type 0} (config : Config) (limit number : ℕ) (messa
   pub drawn : Draws old.draw (fresh ∷ []) new.draw
   pub clock : Appends old.clock new.clock (now ∷ [])
   pub moved : Moved old.pass new.pass calls
+  pub sound : IsSound new.pass
   pub spent : IsTrue (is_spent answer) → limit ≤ new.pass.drawn
   pub unspent : is_spent answer ≡ false → Unspent limit old.pass new.pass calls
   pub answers : Answers (wanted_at config number message fresh) now calls answer
-  pub finishes : Finishes old.sides new.sides answer (ending_after number message) result
+  pub finishes : Finishes old.sides new.sides answer (newest_of new.pass.moments) (ending_after number message) result

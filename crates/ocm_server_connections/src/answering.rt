@@ -22,9 +22,9 @@ use crate::endings::Missed;
 use crate::nodes::Node;
 use ocm_dav::{Config, Page, Shape, Wanted, ask_of};
 use ocm_dav_pages::page_of;
-use ocm_entry::{Ask, Object, Reply};
+use ocm_entry::{Ask, Reply};
 use ocm_http::Message;
-use ocm_turn::{Pass, Spent};
+use ocm_turn::{Dated, Pass, Spent};
 use ocm_types::Fresh;
 use std::alloc::Global;
 use std::sync::Wait;
@@ -37,7 +37,7 @@ pub fn is_done(reply: &Reply) -> bool
 }
 
 /// One call of the object, of an ask that requests spell or a tick.
-fn ask_node<T: Object, R: Wait>(
+fn ask_node<T: Dated, R: Wait>(
     rt: &R,
     node: &Node<T>,
     pass: &mut Pass<T>,
@@ -63,7 +63,7 @@ fn let_go(_ask: Ask) {}
 fn let_reply_go(_reply: Reply) {}
 
 /// Ticks, and asks where that is done.
-fn reply_to<T: Object, R: Wait>(
+fn reply_to<T: Dated, R: Wait>(
     rt: &R,
     node: &Node<T>,
     pass: &mut Pass<T>,
@@ -113,7 +113,7 @@ pub fn page_for(alloc: Global, reply: &Reply, shape: &Shape) -> Result<Page, Mis
 }
 
 /// The page of what is asked.
-fn asked_page<T: Object, R: Wait>(
+fn asked_page<T: Dated, R: Wait>(
     rt: &R,
     alloc: Global,
     node: &Node<T>,
@@ -138,7 +138,7 @@ fn asked_page<T: Object, R: Wait>(
 }
 
 /// What a message comes to: its page, with the calls that it takes.
-pub(crate) fn answer<T: Object, R: Wait>(
+pub(crate) fn answer<T: Dated, R: Wait>(
     rt: &R,
     alloc: Global,
     config: &Config,

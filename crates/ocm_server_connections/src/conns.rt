@@ -1,14 +1,15 @@
 ghost use Rattle.std.specs.Prelude.{◌≡◌};
 ghost use Rattle.ocm_http.specs.Readers.{holding};
 ghost use Rattle.ocm_http.specs.Written.{fixed};
-ghost use Rattle.ocm_server_connections.specs.Sides.{Sides, IsOpen, IsEnd, Gives, Sends};
+ghost use Rattle.ocm_server_connections.specs.Sides.{Sides, IsOpen, IsEnd, Gives, Sends, as_fixed, as_page, newest_of};
 
 use ocm_base::{Failed, Joined};
 use ocm_http::{Fixed, FrameFault, Message, Reader};
+use ocm_turn::{Dated, Pass};
 
 /// A connection: a source and a sink in one, of which neither disturbs the other.
 pub trait Conn: Drop {
-    /// What it has left and took, where it knows them, and its faults.
+    /// What it has left, what it took and what it noted of its pages, where it knows them, and its faults.
     ghost sides: { Self → Sides };
 
     /// Reads the next message.
@@ -24,11 +25,12 @@ pub trait Conn: Drop {
         ensures same { sides self.new ≡ sides self.old }
         ensures told { IsEnd (sides self.old) result };
 
-    /// Writes a page.
-    fn send(&mut self, piece: &Joined) -> Result<(), Failed>
-        ensures { Sends (sides self.old) (sides self.new) piece.now result };
+    /// Writes a page. One that notes its pages notes what was written, all or a front, with the moment behind the newest
+    /// call that the pass knows of.
+    fn send<T: Dated>(&mut self, piece: &Joined, pass: &Pass<T>) -> Result<(), Failed>
+        ensures { Sends (sides self.old) (sides self.new) piece.now (as_page (newest_of pass.now.moments)) result };
 
-    /// Writes a fixed reply.
+    /// Writes a fixed reply. It is not noted.
     fn send_fixed(&mut self, which: Fixed) -> Result<(), Failed>
-        ensures { Sends (sides self.old) (sides self.new) (fixed which) result };
+        ensures { Sends (sides self.old) (sides self.new) (fixed which) as_fixed result };
 }

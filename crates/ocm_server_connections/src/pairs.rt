@@ -1,11 +1,12 @@
 //! Connections of a source and a sink.
 
-ghost use Rattle.std.specs.Prelude.{◌≡◌, Some, [], ◌++◌};
+ghost use Rattle.std.specs.Prelude.{◌≡◌, Some, None, [], ◌++◌};
 ghost use Rattle.ocm_server_connections.specs.Sides.{Sides};
 
 use crate::conns::Conn;
 use ocm_base::{Failed, Joined, MemSink, MemSource, PureSink, PureSource, Sink, Source};
 use ocm_http::{Fixed, FrameFault, Message, Reader, write_fixed};
+use ocm_turn::{Dated, Pass};
 
 /// A connection of a source and a sink that share nothing.
 #[derive(Drop)]
@@ -42,6 +43,7 @@ impl<S: Source, K: Sink> Conn for Pair<S, K> {
     ghost sides = { λ p. record {
       left = S.left p.source;
       taken = K.taken p.sink;
+      noted = None;
       read_faults = S.faults p.source;
       write_faults = K.faults p.sink;
     } };
@@ -55,7 +57,7 @@ impl<S: Source, K: Sink> Conn for Pair<S, K> {
         false
     }
 
-    fn send(&mut self, piece: &Joined) -> Result<(), Failed> {
+    fn send<T: Dated>(&mut self, piece: &Joined, _pass: &Pass<T>) -> Result<(), Failed> {
         piece.write_to(&mut self.sink)
     }
 

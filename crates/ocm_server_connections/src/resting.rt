@@ -6,6 +6,7 @@ use crate::conns::Conn;
 use crate::pairs::MemConn;
 use ocm_base::{Failed, Joined};
 use ocm_http::{Fixed, FrameFault, Message, Reader};
+use ocm_turn::{Dated, Pass};
 
 /// A connection in memory that rests where nothing is left of what it gives.
 #[derive(Drop)]
@@ -28,8 +29,8 @@ impl Conn for RestConn {
         self.pair.source.is_empty()
     }
 
-    fn send(&mut self, piece: &Joined) -> Result<(), Failed> {
-        self.pair.send(piece)
+    fn send<T: Dated>(&mut self, piece: &Joined, pass: &Pass<T>) -> Result<(), Failed> {
+        self.pair.send(piece, pass)
     }
 
     fn send_fixed(&mut self, which: Fixed) -> Result<(), Failed> {

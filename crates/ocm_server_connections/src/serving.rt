@@ -5,7 +5,7 @@ ghost use Rattle.ocm_base.specs.Outside.{Rose};
 ghost use Rattle.ocm_limits.specs.Limits.{last_connection_request, most_connection_requests};
 ghost use Rattle.ocm_http.specs.Messages.{IsRequest};
 ghost use Rattle.ocm_turn.specs.Passes.{BelongsTo};
-ghost use Rattle.ocm_server_connections.specs.Sides.{IsOpen, Gives};
+ghost use Rattle.ocm_server_connections.specs.Sides.{IsOpen, Gives, as_fixed, newest_of};
 ghost use Rattle.ocm_server_connections.specs.Talk as talk;
 ghost use Rattle.ocm_server_connections.specs.Talk.{EndsMissed, Tries, no_memory};
 ghost use Rattle.ocm_server_connections.specs.Parts.{Finishes, Writing, Refuses, RefusesAt, Goes, Served, Talked, stand, state};
@@ -17,23 +17,22 @@ use crate::endings::{Ended, Missed};
 use crate::nodes::Node;
 use ocm_base::Clock;
 use ocm_dav::{Config, Page};
-use ocm_entry::Object;
 use ocm_http::{Fixed, FrameFault, Head, Message, Reader};
 use ocm_limits::{LAST_CONNECTION_REQUEST, MOST_BODY_BYTES};
-use ocm_turn::Pass;
+use ocm_turn::{Dated, Pass};
 use std::alloc::Global;
 use std::sync::Wait;
 
 /// Tries the fixed reply where there was no memory.
 fn try_no_memory<C: Conn>(conn: &mut C)
-    ensures { Writing (C.sides conn.old) (C.sides conn.new) (λ failed written. Tries failed no_memory written) }
+    ensures { Writing (C.sides conn.old) (C.sides conn.new) as_fixed (λ failed written. Tries failed no_memory written) }
 {
     let _tried = conn.send_fixed(Fixed::NoMemory);
 }
 
 /// Ends a connection whose message has no page.
 fn finish_missed<C: Conn>(conn: &mut C, missed: Missed) -> Ended
-    ensures { Writing (C.sides conn.old) (C.sides conn.new) (λ failed written. EndsMissed failed missed written result) }
+    ensures { Writing (C.sides conn.old) (C.sides conn.new) as_fixed (λ failed written. EndsMissed failed missed written result) }
 {
     match missed {
         Missed::Spent => Ended::Spent,
@@ -44,16 +43,17 @@ fn finish_missed<C: Conn>(conn: &mut C, missed: Missed) -> Ended
     }
 }
 
-/// Writes what a message came to.
-fn finish<C: Conn>(
+/// Writes what a message came to, a page with what the pass knows by then.
+fn finish<T: Dated, C: Conn>(
+    pass: &Pass<T>,
     conn: &mut C,
     answer: Result<Page, Missed>,
     after: Option<Ended>,
 ) -> Option<Ended>
-    ensures { Finishes (C.sides conn.old) (C.sides conn.new) answer after result }
+    ensures { Finishes (C.sides conn.old) (C.sides conn.new) answer (newest_of pass.now.moments) after result }
 {
     match answer {
-        Ok(page) => match conn.send(&page.bytes) {
+        Ok(page) => match conn.send(&page.bytes, pass) {
             Ok(()) => after,
             Err(_) => Some(Ended::WriteFault),
         },
@@ -63,7 +63,7 @@ fn finish<C: Conn>(
 
 /// Answers bytes that are refused at a place.
 fn refuse_at<C: Conn>(conn: &mut C, place: u64) -> Ended
-    ensures { Writing (C.sides conn.old) (C.sides conn.new) (λ failed written. RefusesAt place result failed written) }
+    ensures { Writing (C.sides conn.old) (C.sides conn.new) as_fixed (λ failed written. RefusesAt place result failed written) }
 {
     match conn.send_fixed(Fixed::Bad) {
         Ok(()) => Ended::Bad(place),
@@ -73,7 +73,7 @@ fn refuse_at<C: Conn>(conn: &mut C, place: u64) -> Ended
 
 /// Answers bytes that are no message.
 fn refuse<C: Conn>(conn: &mut C, fault: FrameFault) -> Ended
-    ensures { Writing (C.sides conn.old) (C.sides conn.new) (λ failed written. Refuses fault result failed written) }
+    ensures { Writing (C.sides conn.old) (C.sides conn.new) as_fixed (λ failed written. Refuses fault result failed written) }
 {
     match fault {
         FrameFault::BadHead(place) => refuse_at(conn, place),
@@ -148,7 +148,7 @@ pub fn ending_after(number: u64, message: &Message) -> Option<Ended>
 }
 
 /// Answers one message, and writes what it comes to.
-fn serve_request<T: Object, C: Conn, K: Clock, R: Wait>(
+fn serve_request<T: Dated, C: Conn, K: Clock, R: Wait>(
     rt: &R,
     alloc: Global,
     config: &Config,
@@ -171,7 +171,9 @@ fn serve_request<T: Object, C: Conn, K: Clock, R: Wait>(
     let fresh = draw.next();
     let now = clock.now();
     let answered = answer(rt, alloc, config, node, pass, &message, fresh, now);
-    finish(conn, answered, after)
+    // Whoever asks a pass for its calls is told that they stand in order, and that each entry has its moment.
+    let _calls = pass.calls();
+    finish(pass, conn, answered, after)
 }
 
 /// Whether a connection rests between two messages. Then it has no further one.
@@ -197,7 +199,7 @@ fn next_message<C: Conn>(conn: &mut C, reader: &mut Reader) -> Result<Option<Mes
 }
 
 /// Serves one message of a connection. None where it goes on.
-fn serve_message<T: Object, C: Conn, K: Clock, R: Wait>(
+fn serve_message<T: Dated, C: Conn, K: Clock, R: Wait>(
     rt: &R,
     alloc: Global,
     config: &Config,
@@ -229,7 +231,7 @@ fn serve_message<T: Object, C: Conn, K: Clock, R: Wait>(
 }
 
 /// Serves the messages of a connection one after another.
-fn serve_messages<T: Object, C: Conn, K: Clock, R: Wait>(
+fn serve_messages<T: Dated, C: Conn, K: Clock, R: Wait>(
     rt: &R,
     alloc: Global,
     config: &Config,
@@ -283,7 +285,7 @@ fn serve_messages<T: Object, C: Conn, K: Clock, R: Wait>(
 /// Serves a connection: reads its messages one after another, answers each by the object behind the turnstile, and
 /// writes the pages. For each message that was read one value is drawn and one is taken of the clock, used or not. It
 /// waits for its turns, and its return is not promised.
-pub fn serve_conn<T: Object, C: Conn, K: Clock, R: Wait>(
+pub fn serve_conn<T: Dated, C: Conn, K: Clock, R: Wait>(
     rt: &R,
     alloc: Global,
     config: &Config,

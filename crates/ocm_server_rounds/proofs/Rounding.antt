@@ -1,6 +1,5 @@
 -- Messages delivered one after another.
-use Rattle.std.proofs.Common.{◌≡◌, ◌≢◌, ℕ, ◌+◌, ◌<◌, ◌≤◌, min, Bool, true, false, List, [], ◌∷◌, ◌++◌, length, get_or, drop, add-one, Option, Some, None, Result, Ok, Err, refl, sym, ap, subst, ◌∙◌, append_assoc, append-nil, arith}
-use Rattle.std.specs.Prelude.{option_map}
+use Rattle.std.proofs.Common.{◌≡◌, ℕ, ◌+◌, ◌<◌, ◌≤◌, Bool, true, false, List, [], ◌∷◌, ◌++◌, length, get_or, drop, add-one, Option, Result, Ok, Err, refl, sym, ap, subst, ◌∙◌, append_assoc, append-nil, arith}
 use Rattle.std.proofs.Math.Seq.{drop-cons}
 use Rattle.std.proofs.lemmas.List.{drop_all}
 use Rattle.ocm_types.specs.declared.letters.Numbered.{Numbered}
@@ -13,7 +12,7 @@ use Rattle.ocm_pump.specs.declared.exchanges.Exchange.{Exchange}
 use Rattle.ocm_pump.specs.declared.faults.PumpFault.{PumpFault}
 use Rattle.ocm_pump.specs.declared.faults.PumpFault.TheVariants as faults
 use Rattle.ocm_pump.specs.Delivery.{Delivers}
-use Rattle.ocm_pump.specs.Exchanges.{Adds, AddsSome}
+use Rattle.ocm_pump.specs.Exchanges.{AddsSome}
 use Rattle.ocm_pump.proofs.Additions.{adds_none, adds_more}
 use Rattle.ocm_turn.specs.Calls.{entry}
 use Rattle.ocm_turn.specs.Moves.{Moved}

@@ -7,9 +7,9 @@ ghost use Rattle.ocm_server_rounds.specs.Rounds.{Delivered, Answers, Rounded, co
 
 use crate::pumped::{Pumped, RoundEnd};
 use crate::settling::{ask_node, is_no_memory, try_message};
-use ocm_entry::{Ask, Object, Reply};
+use ocm_entry::{Ask, Reply};
 use ocm_pump::Dial;
-use ocm_turn::{Pass, Turnstile};
+use ocm_turn::{Dated, Pass, Turnstile};
 use ocm_types::Numbered;
 use std::alloc::Global;
 use std::sync::Wait;
@@ -64,7 +64,7 @@ struct Passed {
 }
 
 /// Delivers messages one after another, up to the first that stops the round.
-fn deliver_all<T: Object, N: Dial, R: Wait>(
+fn deliver_all<T: Dated, N: Dial, R: Wait>(
     rt: &R,
     alloc: Global,
     node: &Turnstile<T>,
@@ -101,7 +101,7 @@ fn deliver_all<T: Object, N: Dial, R: Wait>(
 }
 
 /// What a round comes to by the reply to the question for messages that are due.
-fn answer_due<T: Object, N: Dial, R: Wait>(
+fn answer_due<T: Dated, N: Dial, R: Wait>(
     rt: &R,
     alloc: Global,
     node: &Turnstile<T>,
@@ -138,7 +138,7 @@ fn answer_due<T: Object, N: Dial, R: Wait>(
 /// Makes one round of delivery: asks for the messages that are due, delivers them one after another, and settles each by
 /// what came back. A message without an answer stays due. The round stops at the turnstile's limit, and where there is no
 /// memory. It waits for its turns, and its return is not promised.
-pub fn pump_round<T: Object, N: Dial, R: Wait>(
+pub fn pump_round<T: Dated, N: Dial, R: Wait>(
     rt: &R,
     alloc: Global,
     node: &Turnstile<T>,

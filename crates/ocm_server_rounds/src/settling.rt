@@ -9,9 +9,9 @@ ghost use Rattle.ocm_server_rounds.specs.Rounds as rounds;
 ghost use Rattle.ocm_server_rounds.specs.Rounds.{Settles, Tried, hold};
 
 use crate::pumped::RoundEnd;
-use ocm_entry::{Ask, Object, Reply};
+use ocm_entry::{Ask, Reply};
 use ocm_pump::{Answered, Dial, PumpFault, deliver};
-use ocm_turn::{Pass, Spent, Turnstile};
+use ocm_turn::{Dated, Pass, Spent, Turnstile};
 use ocm_types::Numbered;
 use std::alloc::Global;
 use std::sync::Wait;
@@ -24,7 +24,7 @@ pub(crate) struct Trial {
 }
 
 /// One call of the object.
-pub(crate) fn ask_node<T: Object, R: Wait>(
+pub(crate) fn ask_node<T: Dated, R: Wait>(
     rt: &R,
     node: &Turnstile<T>,
     pass: &mut Pass<T>,
@@ -71,7 +71,7 @@ fn end_by(fault: PumpFault) -> RoundEnd
 }
 
 /// Settles a message by what its delivery answered.
-fn settle<T: Object, R: Wait>(
+fn settle<T: Dated, R: Wait>(
     rt: &R,
     node: &Turnstile<T>,
     pass: &mut Pass<T>,
@@ -103,7 +103,7 @@ fn settle<T: Object, R: Wait>(
 }
 
 /// Delivers a message, and settles it by what came back.
-pub(crate) fn try_message<T: Object, N: Dial, R: Wait>(
+pub(crate) fn try_message<T: Dated, N: Dial, R: Wait>(
     rt: &R,
     alloc: Global,
     node: &Turnstile<T>,

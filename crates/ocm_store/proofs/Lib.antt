@@ -4,4 +4,5 @@ pub mod Exits
 pub mod Room
 pub mod Opened
 pub mod Runs
+pub mod Ties
 mod Ended

@@ -1,5 +1,5 @@
 -- What a store comes to by several calls, one after another, and what a crash leaves at any moment of them.
-use Rattle.std.specs.Prelude.{◌≡◌, ◌⊎◌, ℕ, List, [], ◌∷◌, ◌++◌, false, Option, Some, None}
+use Rattle.std.specs.Prelude.{◌≡◌, ◌⊎◌, ℕ, ◌≤◌, List, [], ◌∷◌, ◌++◌, length, false, Option, Some, None}
 use Rattle.ocm_disk.specs.Disk.{LeavesOnly}
 use Rattle.ocm_disk.specs.declared.disk.Disk.{Ghosts}
 use Rattle.ocm_entry.specs.declared.asks.Ask.{Ask}
@@ -18,6 +18,20 @@ use Rattle.ocm_store.specs.Stores.{LeavesNext, disk_of, terms_of}
 abbrev pub Course : {D : Type 0} (disk : Ghosts D) → Store D disk → List Entry → Store D disk → Type 0
 Course disk old [] new = new ≡ old
 Course {D} disk old (e ∷ before) new = (mid : Store D disk) × Course disk old before mid × Acts disk mid new e.ask e.reply
+
+-- ... and behind each of them its disk was at this moment: as many as calls, that of the newest first.
+abbrev pub CourseAt : {D : Type 0} (disk : Ghosts D) → Store D disk → List Entry → List ℕ → Store D disk → Type 0
+CourseAt disk old [] [] new = new ≡ old
+CourseAt {D} disk old (e ∷ before) (t ∷ earlier) new = (mid : Store D disk) × CourseAt disk old before earlier mid × Acts disk mid new e.ask e.reply × (disk.moment (disk_of new) ≡ t)
+CourseAt disk old _ _ new = ⊥
+
+-- Of the moments behind all calls, the newest first, this one is that behind the newest of `done`, which are the oldest of these calls.
+abbrev pub IsMomentBehind : List Entry → List ℕ → ℕ → Type 0
+IsMomentBehind done moments at = (newer earlier : List ℕ) × (moments ≡ newer ++ (at ∷ earlier)) × (length (at ∷ earlier) ≡ length done)
+
+-- by now this moment has been, and a crash since then leaves a disk that has P
+abbrev pub LeavesSince : {D : Type 0} → Ghosts D → D → ℕ → (List ℕ → Type 0) → Type 0
+LeavesSince disk now at P = (at ≤ disk.moment now) × ((c : List ℕ) → disk.left_since now at c → P c)
 
 -- What a crash leaves at some moment of the calls `later`, the newest first, which were made after `done`: what may follow `done`, or what
 -- may follow all that came before one of them, which was in flight.
@@ -64,3 +78,13 @@ abbrev pub CoursesKeep : {D : Type 0} → Ghosts D → Type 0
 CoursesKeep {D} disk = (old new : Store D disk) (k done later : List Entry) → StandsLegally disk old k [] → Course disk old (later ++ done) new
     → (mid : Store D disk) × Course disk old done mid × Course disk mid later new × StandsLegally disk mid k done
     × (disk.tells → LeavesOnly disk.moment disk.left_since (disk_of mid) (disk_of new) (LeavesAlong (terms_of old) k done later))
+
+-- a course with moments is a course, and has as many moments as calls
+abbrev pub CoursesWithMoments : {D : Type 0} → Ghosts D → Type 0
+CoursesWithMoments {D} disk = (old new : Store D disk) (h : List Entry) (moments : List ℕ) → CourseAt disk old h moments new → Course disk old h new × (length moments ≡ length h)
+
+-- of the store that a course ends with, whatever came later: since the moment behind a call a crash leaves what may follow at some place behind
+-- this call
+abbrev pub CoursesTie : {D : Type 0} → Ghosts D → Type 0
+CoursesTie {D} disk = disk.tells → (old new : Store D disk) (k done later : List Entry) (moments : List ℕ) (at : ℕ) → StandsLegally disk old k [] → CourseAt disk old (later ++ done) moments new
+    → IsMomentBehind done moments at → LeavesSince disk (disk_of new) at (LeavesAlong (terms_of old) k done later)

@@ -7,7 +7,7 @@ ghost use Rattle.ocm_journal.specs.Openings.{StaysAsItOpens};
 ghost use Rattle.ocm_rules.specs.History.{IsLegal, kept};
 ghost use Rattle.ocm_law_sessions.specs.Sessions.{IsSession};
 ghost use Rattle.ocm_store.specs.declared.load_faults.LoadFault.{LoadFault};
-ghost use Rattle.ocm_store.specs.Courses.{CoursesKeep, CoursesLeave, CoursesStand, EndedStaysEnded, MomentsHavePlaces};
+ghost use Rattle.ocm_store.specs.Courses.{CoursesKeep, CoursesLeave, CoursesStand, CoursesTie, CoursesWithMoments, EndedStaysEnded, MomentsHavePlaces};
 ghost use Rattle.ocm_store.specs.Opening.{IsImageIn, IsOfArea, OpensAlike, OpensTo, loading};
 
 use ocm_disk::Disk;
@@ -58,6 +58,17 @@ pub fn a_crash_in_a_course_leaves_what_may_follow<D: Disk>()
 /// nothing that was answered is lost.
 pub fn a_crash_in_a_course_loses_nothing_answered<D: Disk>()
     ensures { CoursesKeep ⟦<D as Disk>⟧ }
+{}
+
+/// Several calls with the moment of the disk behind each of them are several calls, and there are as many moments.
+pub fn a_course_with_moments_is_a_course<D: Disk>()
+    ensures { CoursesWithMoments ⟦<D as Disk>⟧ }
+{}
+
+/// Since the moment of the disk behind a call a crash leaves of the disk that comes back what may follow that call, or a later
+/// one: the change was on the disk at this moment, and stayed there. The moment has been by the time when the disk comes back.
+pub fn a_crash_since_a_moment_loses_nothing_done_by_then<D: Disk>()
+    ensures { CoursesTie ⟦<D as Disk>⟧ }
 {}
 
 /// What a crash leaves at some moment of several calls opens to a list that may follow the calls up to one place, while the

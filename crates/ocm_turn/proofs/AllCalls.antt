@@ -1,5 +1,5 @@
 -- Calls that are all calls of a history.
-use Rattle.std.proofs.Common.{◌≡◌, ℕ, suc, ◌<◌, List, [], ◌∷◌, length, Bool, cond, Some, sym, refl, ap, subst, ◌∙◌, arith, ne_eqb, false}
+use Rattle.std.proofs.Common.{◌≡◌, ℕ, ◌<◌, List, [], ◌∷◌, length, Bool, cond, Some, sym, refl, ap, subst, ◌∙◌, arith, ne_eqb, false}
 use Rattle.std.specs.Prelude.{nat_eq}
 use Rattle.ocm_entry.specs.declared.entries.Entry.{Entry}
 use Rattle.ocm_turn.specs.declared.view.Call.{Call}

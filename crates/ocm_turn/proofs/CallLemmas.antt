@@ -4,7 +4,7 @@ use Rattle.std.proofs.lemmas.Bool.{ltb-true, ltb-false, eqb-true}
 use Rattle.std.specs.Prelude.{nat_lt, nat_eq}
 use Rattle.ocm_entry.specs.declared.entries.Entry.{Entry}
 use Rattle.ocm_turn.specs.declared.view.Call.{Call}
-use Rattle.ocm_turn.specs.Calls.{IsOlderPart, entry_at, Each, StandIn, InOrder, Disjoint, placed, merged, longer, shorter}
+use Rattle.ocm_turn.specs.Calls.{IsOlderPart, entry_at, Each, StandIn, InOrder, Disjoint, placed, merged, longer, shorter, moments_of_longer, moments_of_shorter}
 
 none_some : {A : Type 0} → (a : A) → None ≡ Some a → ⊥
 none_some {A} a e = subst (λ (o : Option A). elim o as (λ _. Type 0) [ None ↦ Unit {0} | Some _ ↦ ⊥ ]) e tt
@@ -32,23 +32,23 @@ at_more (x ∷ newer) h n e at = at_newer (newer ++ h) n e x (at_more newer h n 
 pub at_front : (h : List Entry) (e : Entry) → entry_at (e ∷ h) (length h) ≡ Some e
 at_front h e = ap (λ (b : Bool). cond b (Some e) (entry_at h (length h))) (eq-eqb (length h) (length h) refl)
 
-pub older_self : (h : List Entry) → IsOlderPart h h
+pub older_self : {A : Type 0} → (h : List A) → IsOlderPart h h
 older_self h = ([], refl)
 
-pub older_through : (a b c : List Entry) → IsOlderPart a b → IsOlderPart b c → IsOlderPart a c
-older_through a b c p q = (q.0 ++ p.0, q.1 ∙ (ap (λ (l : List Entry). q.0 ++ l) p.1 ∙ sym (append_assoc q.0 p.0 a)))
+pub older_through : {A : Type 0} → (a b c : List A) → IsOlderPart a b → IsOlderPart b c → IsOlderPart a c
+older_through {A} a b c p q = (q.0 ++ p.0, q.1 ∙ (ap (λ (l : List A). q.0 ++ l) p.1 ∙ sym (append_assoc q.0 p.0 a)))
 
-pub older_length : (a b : List Entry) → IsOlderPart a b → length a ≤ length b
+pub older_length : {A : Type 0} → (a b : List A) → IsOlderPart a b → length a ≤ length b
 older_length a b p = let n : length b ≡ length p.0 + length a = ap length p.1 ∙ length-append p.0 a in omega (arith, n)
 
 -- of two older parts of one list the shorter is one of the longer
-pub older_both : (newer other a b : List Entry) → newer ++ a ≡ other ++ b → length b ≤ length a → IsOlderPart b a
-older_both [] other a b e le = (other, e)
-older_both (x ∷ newer) [] a b e le = let n : length b ≡ suc (length newer + length a) = sym (ap length e) ∙ ap suc (length-append newer a) in absurd (omega (arith, n))
-older_both (x ∷ newer) (y ∷ other) a b e le = older_both newer other a b (ap (λ (l : List Entry). elim l as (λ _. List Entry) [ [] ↦ [] | z ∷ zs ↦ zs ]) e) le
+pub older_both : {A : Type 0} → (newer other a b : List A) → newer ++ a ≡ other ++ b → length b ≤ length a → IsOlderPart b a
+older_both {A} [] other a b e le = (other, e)
+older_both {A} (x ∷ newer) [] a b e le = let n : length b ≡ suc (length newer + length a) = sym (ap length e) ∙ ap suc (length-append newer a) in absurd (omega (arith, n))
+older_both {A} (x ∷ newer) (y ∷ other) a b e le = older_both newer other a b (ap (λ (l : List A). elim l as (λ _. List A) [ [] ↦ [] | z ∷ zs ↦ zs ]) e) le
 
-pub older_two : (a b whole : List Entry) → IsOlderPart a whole → IsOlderPart b whole → length b ≤ length a → IsOlderPart b a
-older_two a b whole p q le = older_both p.0 q.0 a b (sym p.1 ∙ q.1) le
+pub older_two : {A : Type 0} → (a b whole : List A) → IsOlderPart a whole → IsOlderPart b whole → length b ≤ length a → IsOlderPart b a
+older_two {A} a b whole p q le = older_both p.0 q.0 a b (sym p.1 ∙ q.1) le
 
 -- an older part that is as long is the whole
 pub older_whole : (a b : List Entry) → IsOlderPart a b → length b ≤ length a → a ≡ b
@@ -129,6 +129,14 @@ pub shorter_longer : (a b whole : List Entry) → IsOlderPart a whole → IsOlde
 shorter_longer a b whole p q = elim (nat_lt (length a) (length b)) as (λ c. nat_lt (length a) (length b) ≡ c → IsOlderPart (cond c a b) (cond c b a)) [
   | true ↦ λ e. let less = ltb-true (length a) (length b) e in older_two b a whole q p (omega (arith, less))
   | false ↦ λ e. older_two a b whole p q (ltb-false (length a) (length b) e)
+] refl
+
+-- so are the moments of the shorter one of those of the longer
+pub shorter_longer_moments : (a b : List Entry) (of_a of_b whole : List ℕ) → length of_a ≡ length a → length of_b ≡ length b → IsOlderPart of_a whole → IsOlderPart of_b whole
+    → IsOlderPart (moments_of_shorter a b of_a of_b) (moments_of_longer a b of_a of_b)
+shorter_longer_moments a b of_a of_b whole n m p q = elim (nat_lt (length a) (length b)) as (λ c. nat_lt (length a) (length b) ≡ c → IsOlderPart (cond c of_a of_b) (cond c of_b of_a)) [
+  | true ↦ λ e. let less = ltb-true (length a) (length b) e in older_two of_b of_a whole q p (omega (arith, less, n, m))
+  | false ↦ λ e. let less = ltb-false (length a) (length b) e in older_two of_a of_b whole p q (omega (arith, less, n, m))
 ] refl
 
 pub longer_either : (P : List Entry → Type 0) (a b : List Entry) → P a → P b → P (longer a b)

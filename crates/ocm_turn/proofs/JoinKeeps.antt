@@ -1,5 +1,6 @@
 -- A join of two seats keeps the rule.
-use Rattle.std.proofs.Common.{◌≡◌, ℕ, ◌≢◌, ◌<◌, inl, inr, ⊎_elim, List, [], ◌∷◌, length, set, refl, sym, ap, ◌∙◌, subst, arith, true, false, Option, Some, append-nil}
+use Rattle.std.proofs.Common.{◌≡◌, ℕ, ◌≢◌, ◌<◌, inl, inr, ⊎_elim, List, [], ◌∷◌, length, set, refl, sym, ap, ◌∙◌, subst, arith, true, false, cond, Option, Some, append-nil}
+use Rattle.std.specs.Prelude.{nat_lt}
 use mathlib.Core.Logic.{dite}
 use mathlib.Core.Option as home
 use mathlib.Core.Option.{some-injective}
@@ -14,19 +15,19 @@ use Rattle.ocm_turn.specs.declared.view.Stage.TheVariants.{Named}
 use Rattle.ocm_turn.specs.Calls.{IsOlderPart, Each, Disjoint, entry_at}
 use Rattle.ocm_turn.specs.Rule.{spent_view, IsIdle, Fits, Sees, EachView, SomeView, total, calls_of, parts_of, HasPart, Tally, Rule, Holds}
 use Rattle.ocm_turn.specs.Steps.{joined}
-use Rattle.ocm_turn.proofs.CallLemmas.{older_self, stand_older, shorter_longer, left_older, right_older, longer_either, longer_left, longer_right, each_merged, in_order_merged, disjoint_none, length_merged}
+use Rattle.ocm_turn.proofs.CallLemmas.{older_self, stand_older, shorter_longer, shorter_longer_moments, left_older, right_older, longer_either, longer_left, longer_right, each_merged, in_order_merged, disjoint_none, length_merged}
 use Rattle.ocm_turn.proofs.ViewLemmas.{set_swap, here_again, spent_new, spent_named, no_ticket, not_both, some_set, each_set, one_hand_set, apart_set}
 use Rattle.ocm_turn.proofs.RuleLemmas.{kept_at}
 use Rattle.ocm_turn.proofs.TallyLemmas.{total_set}
 
-module _ {T G : Type 0} (terms_of : T → G) (stands : T → List Entry → List Entry → Type 0) (legal : G → List Entry → List Entry → Type 0) (limit : ℕ) where
-  module _ (terms : G) (base history : List Entry) (next : ℕ) (homes : List (home.Option (Option T))) (views : List (View G)) (id other : ℕ) (v w : View G)
-      (h : Rule terms_of stands legal limit terms base history next homes views) (at : Sees views id v) (at2 : Sees views other w) (differ : other ≢ id) (quiet : IsIdle v) (idle : IsIdle w) where
+module _ {T G : Type 0} (terms_of : T → G) (stands : T → List Entry → List Entry → List ℕ → Type 0) (legal : G → List Entry → List Entry → Type 0) (limit : ℕ) where
+  module _ (terms : G) (base history : List Entry) (moments : List ℕ) (next : ℕ) (homes : List (home.Option (Option T))) (views : List (View G)) (id other : ℕ) (v w : View G)
+      (h : Rule terms_of stands legal limit terms base history moments next homes views) (at : Sees views id v) (at2 : Sees views other w) (differ : other ≢ id) (quiet : IsIdle v) (idle : IsIdle w) where
     abbrev both : View G
     both = joined v w
 
     abbrev F : View G → Type 0
-    F = Fits limit terms base history next
+    F = Fits limit terms base history moments next
 
     fits_spent : F spent_view
     fits_spent = record {
@@ -36,7 +37,10 @@ module _ {T G : Type 0} (terms_of : T → G) (stands : T → List Entry → List
       terms_are = λ e. absurd (spent_named e);
       met = (refl, refl);
       seen = (history, sym (append-nil history));
+      noted = (moments, sym (append-nil moments));
+      paired = refl;
       heard = older_self [];
+      heard_noted = older_self [];
       mine = tt;
       order = tt;
       drawn = omega arith;
@@ -58,7 +62,10 @@ module _ {T G : Type 0} (terms_of : T → G) (stands : T → List Entry → List
           terms_are = a.terms_are;
           met = (b.base_is idle.2 ∙ sym (a.base_is quiet.2), b.terms_are idle.2 ∙ sym (a.terms_are quiet.2));
           seen = longer_either (λ l. IsOlderPart l history) v.seen w.seen a.seen b.seen;
+          noted = elim (nat_lt (length v.seen) (length w.seen)) as (λ b. IsOlderPart (cond b w.moments v.moments) moments) [ true ↦ b.noted | false ↦ a.noted ];
+          paired = elim (nat_lt (length v.seen) (length w.seen)) as (λ b. length (cond b w.moments v.moments) ≡ length (cond b w.seen v.seen)) [ true ↦ b.paired | false ↦ a.paired ];
           heard = shorter_longer v.seen w.seen history a.seen b.seen;
+          heard_noted = shorter_longer_moments v.seen w.seen v.moments w.moments moments a.paired b.paired a.noted b.noted;
           mine = each_merged (λ x. entry_at both.seen x.place ≡ Some x.entry) v.mine w.mine
               (stand_older v.seen both.seen v.mine (left_older v.seen w.seen history a.seen b.seen) a.mine)
               (stand_older w.seen both.seen w.mine (right_older v.seen w.seen history a.seen b.seen) b.mine);
@@ -88,9 +95,10 @@ module _ {T G : Type 0} (terms_of : T → G) (stands : T → List Entry → List
         (id, both, here, (quiet.2, longer_right v.seen w.seen history a.seen (sym (ap (λ (y : View G). y.seen) one) ∙ s.3.1))))
         (λ not_other. (s.0, s.1, set_else views1 id s.0 both not_id ∙ (set_else views other s.0 spent_view not_other ∙ s.2), s.3)))
 
-    into_one : Rule terms_of stands legal limit terms base history next homes (set views1 id both)
+    into_one : Rule terms_of stands legal limit terms base history moments next homes (set views1 id both)
     into_one = record {
       order = h.order;
+      paired = h.paired;
       bounded = h.bounded;
       lawful = h.lawful;
       each = each_set views1 id v both at1 F F (λ j u _ _ f. f) fits_both (each_set views other w spent_view at2 F F (λ j u _ _ f. f) fits_spent h.each);
@@ -105,7 +113,7 @@ module _ {T G : Type 0} (terms_of : T → G) (stands : T → List Entry → List
           (h.apart id j v u (λ e. not_id (sym e)) at m.1) (h.apart other j w u (λ e. m.0 (sym e)) at2 m.1)) (at_set views other j spent_view u at'));
       told = told_both h.told;
       at_home = ⊎_elim
-          (λ (m : (x : T) × (homes ≡ home.some (Some x) ∷ []) × (terms_of x ≡ terms) × stands x base history × EachView views (λ u. u.turn ≡ false)).
+          (λ (m : (x : T) × (homes ≡ home.some (Some x) ∷ []) × (terms_of x ≡ terms) × stands x base history moments × EachView views (λ u. u.turn ≡ false)).
           inl (
             m.0,
             m.1,
@@ -145,11 +153,12 @@ module _ {T G : Type 0} (terms_of : T → G) (stands : T → List Entry → List
       inr record {
         base = k.base;
         history = k.history;
+        moments = k.moments;
         next = k.next;
         bells = k.bells;
         words = k.words;
-        rule = subst (Rule terms_of stands legal limit terms k.base k.history k.next s.homes) (set_swap s.views other id spent_view (joined v w) apart)
-            (into_one terms k.base k.history k.next s.homes s.views id other v w k.rule at at2 apart quiet idle);
+        rule = subst (Rule terms_of stands legal limit terms k.base k.history k.moments k.next s.homes) (set_swap s.views other id spent_view (joined v w) apart)
+            (into_one terms k.base k.history k.moments k.next s.homes s.views id other v w k.rule at at2 apart quiet idle);
         tally = subst (Tally (length k.history)) (set_swap s.views other id spent_view (joined v w) apart)
-            (tally_both terms k.base k.history k.next s.homes s.views id other v w k.rule at at2 apart quiet idle (length k.history) k.tally);
+            (tally_both terms k.base k.history k.moments k.next s.homes s.views id other v w k.rule at at2 apart quiet idle (length k.history) k.tally);
       }

@@ -10,6 +10,7 @@ use Rattle.ocm_turn.specs.declared.view.Call.{Call}
 use Rattle.ocm_turn.specs.Calls.{IsOlderPart, entry, call}
 use Rattle.ocm_turn.specs.Passes.{Known, SameGround}
 use Rattle.ocm_turn.specs.Moves.{Moved, Unspent}
+use Rattle.ocm_turn.proofs.CallLemmas.{older_through}
 
 longer_by_none : (own mine : List Call) → mine ≡ own ++ mine → own ≡ []
 longer_by_none [] mine e = refl
@@ -27,12 +28,14 @@ module _ {Terms : Type 0} where
   }
 
   pub moved_nothing : (a : Known Terms) → Moved a a []
-  moved_nothing a = record { ground = same_ground a; seen = ([], refl); mine = ([], refl, refl); drawn = omega arith; parts = refl }
+  moved_nothing a = record { ground = same_ground a; seen = ([], refl); moments = ([], refl); paired = λ p. p; mine = ([], refl, refl); drawn = omega arith; parts = refl }
 
   pub moved_then : (a b c : Known Terms) (x y : List Entry) → Moved a b x → Moved b c y → Moved a c (y ++ x)
   moved_then a b c x y p q = record {
     ground = ground_then a b c p.ground q.ground;
-    seen = (q.seen.0 ++ p.seen.0, q.seen.1 ∙ (ap (λ (l : List Entry). q.seen.0 ++ l) p.seen.1 ∙ sym (append_assoc q.seen.0 p.seen.0 a.seen)));
+    seen = older_through a.seen b.seen c.seen p.seen q.seen;
+    moments = older_through a.moments b.moments c.moments p.moments q.moments;
+    paired = λ as_many. q.paired (p.paired as_many);
     mine = (
       q.mine.0 ++ p.mine.0,
       q.mine.1 ∙ (ap (λ (l : List Call). q.mine.0 ++ l) p.mine.1 ∙ sym (append_assoc q.mine.0 p.mine.0 a.mine)),
@@ -54,15 +57,18 @@ module _ {Terms : Type 0} where
   pub moved_call : (old new : Known Terms) (ask : Ask) (r : Result Reply Spent) → SameGround old new × (new.parts ≡ old.parts)
       → IfOk r (λ reply. (before : List Entry) × (new.seen ≡ entry ask reply ∷ before) × IsOlderPart old.seen before × (length before ≡ new.drawn))
       → IfOk r (λ reply. new.mine ≡ call new.drawn (entry ask reply) ∷ old.mine) → old.drawn ≤ new.drawn
+      → IfOk r (λ reply. (at : ℕ) × (earlier : List ℕ) × (new.moments ≡ at ∷ earlier) × IsOlderPart old.moments earlier) → length new.moments ≡ length new.seen
       → IfOk r (λ reply. Moved old new (entry ask reply ∷ []))
-  moved_call old new ask (Ok reply) ground seen mine drawn = record {
+  moved_call old new ask (Ok reply) ground seen mine drawn moments paired = record {
     ground = ground.0;
     seen = (entry ask reply ∷ seen.2.0, seen.1 ∙ ap (λ (l : List Entry). entry ask reply ∷ l) seen.2.1);
+    moments = (moments.0 ∷ moments.3.0, moments.2 ∙ ap (λ (l : List ℕ). moments.0 ∷ l) moments.3.1);
+    paired = λ _. paired;
     mine = (call new.drawn (entry ask reply) ∷ [], mine, refl);
     drawn = drawn;
     parts = ground.1;
   }
-  moved_call old new ask (Err spent) ground seen mine drawn = tt
+  moved_call old new ask (Err spent) ground seen mine drawn moments paired = tt
 
   -- a pass that is the same made no calls
   pub moved_same : (a : Known Terms) (calls : List Entry) → Moved a a calls → calls ≡ []

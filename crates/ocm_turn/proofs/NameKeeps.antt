@@ -11,11 +11,11 @@ use Rattle.ocm_turn.specs.Steps.{named, names}
 use Rattle.ocm_turn.proofs.CallLemmas.{older_self}
 use Rattle.ocm_turn.proofs.ViewLemmas.{alone, no_ticket, not_both, new_named}
 
-module _ {T G : Type 0} (terms_of : T → G) (stands : T → List Entry → List Entry → Type 0) (legal : G → List Entry → List Entry → Type 0) (limit : ℕ) where
+module _ {T G : Type 0} (terms_of : T → G) (stands : T → List Entry → List Entry → List ℕ → Type 0) (legal : G → List Entry → List Entry → Type 0) (limit : ℕ) where
   abbrev first : G → List Entry → View G
   first terms base = named (newcomer limit terms) base
 
-  fits_first : (terms : G) (base : List Entry) → Fits limit terms base [] 0 (first terms base)
+  fits_first : (terms : G) (base : List Entry) → Fits limit terms base [] [] 0 (first terms base)
   fits_first terms base = record {
     stage = λ e. new_named (sym e);
     limit_is = λ _. refl;
@@ -23,7 +23,10 @@ module _ {T G : Type 0} (terms_of : T → G) (stands : T → List Entry → List
     terms_are = λ _. refl;
     met = (refl, refl);
     seen = older_self [];
+    noted = older_self [];
+    paired = refl;
     heard = older_self [];
+    heard_noted = older_self [];
     mine = tt;
     order = tt;
     drawn = omega arith;
@@ -39,15 +42,16 @@ module _ {T G : Type 0} (terms_of : T → G) (stands : T → List Entry → List
     held = λ _ j v e. subst HasPart (alone j (first terms base) v e).0 (λ _. omega arith);
   }
 
-  opened : (value : T) (base : List Entry) (homes : List (home.Option (Option T))) → homes ≡ home.some (Some value) ∷ [] → stands value base [] → legal (terms_of value) base []
-      → Rule terms_of stands legal limit (terms_of value) base [] 0 homes (first (terms_of value) base ∷ [])
+  opened : (value : T) (base : List Entry) (homes : List (home.Option (Option T))) → homes ≡ home.some (Some value) ∷ [] → stands value base [] [] → legal (terms_of value) base []
+      → Rule terms_of stands legal limit (terms_of value) base [] [] 0 homes (first (terms_of value) base ∷ [])
   opened value base homes here st ok =
       let w : View G = first (terms_of value) base in
       record {
         order = omega arith;
+        paired = refl;
         bounded = omega arith;
         lawful = ok;
-        each = λ j v e. subst (Fits limit (terms_of value) base [] 0) (alone j w v e).0 (fits_first (terms_of value) base);
+        each = λ j v e. subst (Fits limit (terms_of value) base [] [] 0) (alone j w v e).0 (fits_first (terms_of value) base);
         waiting = λ t low high. absurd (omega (arith, high));
         one_hand = λ i j v u t ei ej ti tj. absurd (no_ticket t (ap (λ (z : View G). z.ticket) (alone i w v ei).0 ∙ ti));
         apart = λ i j v u ne ei ej. subst (λ (y : View G). Disjoint y.mine u.mine) (alone i w v ei).0 tt;
@@ -55,7 +59,7 @@ module _ {T G : Type 0} (terms_of : T → G) (stands : T → List Entry → List
         at_home = inl (value, here, refl, st, λ j v e. ap (λ (z : View G). z.turn) (sym (alone j w v e).0));
       }
 
-  pub names_keep : (value : T) (base : List Entry) (known : List Entry → Type 0) (slots id : ℕ) (me : Me (Option T) (View G)) → me ≡ (newcomer limit (terms_of value), []) → stands value base [] → legal (terms_of value) base [] → known base
+  pub names_keep : (value : T) (base : List Entry) (known : List Entry → Type 0) (slots id : ℕ) (me : Me (Option T) (View G)) → me ≡ (newcomer limit (terms_of value), []) → stands value base [] [] → legal (terms_of value) base [] → known base
       → Allows (Holds terms_of stands legal limit value) slots id me 0 (λ x. x) (names known (step slots 0 0 0 home.none) me)
   names_keep value base known slots id me new st ok fact s given _ at _ =
       let terms : G = terms_of value in
@@ -71,10 +75,11 @@ module _ {T G : Type 0} (terms_of : T → G) (stands : T → List Entry → List
         inr record {
           base = base;
           history = [];
+          moments = [];
           next = 0;
           bells = o.bells;
           words = words;
-          rule = subst (λ (vs : List (View G)). Rule terms_of stands legal limit terms base [] 0 s.homes vs) (sym views) (opened value base s.homes o.homes st ok);
+          rule = subst (λ (vs : List (View G)). Rule terms_of stands legal limit terms base [] [] 0 s.homes vs) (sym views) (opened value base s.homes o.homes st ok);
           tally = subst (Tally 0) (sym views) (tally_first terms base);
         },
         (base, (λ i. (named (sym new i).0 base, me.1)), fact),

@@ -1,5 +1,5 @@
 -- Whatever is written to a bell keeps the rule.
-use Rattle.std.proofs.Common.{◌≡◌, ℕ, zero, suc, ◌+◌, ◌%◌, ◌^◌, ◌≤◌, inr, List, ◌∷◌, length, get_or, set, refl, sym, ap, ◌∙◌, subst, arith, Option}
+use Rattle.std.proofs.Common.{◌≡◌, ℕ, zero, suc, ◌≤◌, inr, List, ◌∷◌, length, get_or, set, refl, sym, ap, ◌∙◌, subst, arith, Option}
 use mathlib.Core.Option as home
 use Rattle.atomic_table.specs.Table.{State, Me, step, keeps, Allows}
 use Rattle.atomic_table.proofs.Lists.{set_again}
@@ -16,7 +16,7 @@ beyond a b bells zero n high = absurd (omega (arith, high))
 beyond a b bells (suc zero) n high = absurd (omega (arith, high))
 beyond a b bells (suc (suc i)) n high = (set bells i n, refl)
 
-module _ {T G : Type 0} (terms_of : T → G) (stands : T → List Entry → List Entry → Type 0) (legal : G → List Entry → List Entry → Type 0) (limit : ℕ) where
+module _ {T G : Type 0} (terms_of : T → G) (stands : T → List Entry → List Entry → List ℕ → Type 0) (legal : G → List Entry → List Entry → Type 0) (limit : ℕ) where
   pub rings_keep : (change : ℕ → ℕ) (value : T) (slots id i : ℕ) (me : Me (Option T) (View G)) → 2 ≤ i → me.0.stage ≡ Named
       → Allows (Holds terms_of stands legal limit value) slots id me i change (rings (step slots i 1 0 home.none) me)
   rings_keep change value slots id i me high named s given _ at _ =
@@ -29,6 +29,6 @@ module _ {T G : Type 0} (terms_of : T → G) (stands : T → List Entry → List
         keeps,
         tt,
         inr (subst (λ (vs : List (View G)). K record { words = set s.words i n; homes = s.homes; views = vs }) (sym (set_again s.views id me.0 at))
-            record { base = k.base; history = k.history; next = k.next; bells = rung.0; words = words; rule = k.rule; tally = k.tally }),
+            record { base = k.base; history = k.history; moments = k.moments; next = k.next; bells = rung.0; words = words; rule = k.rule; tally = k.tally }),
         refl,
       )

@@ -10,8 +10,8 @@ abbrev pub entry : Ask → Reply → Entry
 entry ask reply = record { ask = ask; reply = reply }
 
 -- the first list is what is left of the second when some of its newest entries are taken away
-abbrev pub IsOlderPart : List Entry → List Entry → Type 0
-IsOlderPart older whole = (newer : List Entry) × (whole ≡ newer ++ older)
+abbrev pub IsOlderPart : {A : Type 0} → List A → List A → Type 0
+IsOlderPart {A} older whole = (newer : List A) × (whole ≡ newer ++ older)
 
 -- the entry at a place: the number of the entries before it
 abbrev pub entry_at : List Entry → ℕ → Option Entry
@@ -61,3 +61,11 @@ longer a b = if nat_lt (length a) (length b) then b else a
 -- the shorter of two lists
 abbrev pub shorter : List Entry → List Entry → List Entry
 shorter a b = if nat_lt (length a) (length b) then a else b
+
+-- of the moments behind the entries of two lists those that belong to the longer list
+abbrev pub moments_of_longer : List Entry → List Entry → List ℕ → List ℕ → List ℕ
+moments_of_longer a b of_a of_b = if nat_lt (length a) (length b) then of_b else of_a
+
+-- and those that belong to the shorter
+abbrev pub moments_of_shorter : List Entry → List Entry → List ℕ → List ℕ → List ℕ
+moments_of_shorter a b of_a of_b = if nat_lt (length a) (length b) then of_a else of_b

@@ -14,12 +14,13 @@ pub record Gate : Type 0 where
 abbrev pub all_parts : ℕ
 all_parts = 2 ^ 64
 
--- a pass: its turnstile, the base and the terms of the value behind it, the history up to the pass's last call, its own calls, the greatest ticket word that a draw has found, and its parts
+-- a pass: its turnstile, the base and the terms of the value behind it, the history up to the pass's last call with the moment behind each of its entries, its own calls, the greatest ticket word that a draw has found, and its parts
 pub record Known (Terms : Type 0) : Type 0 where
   pub turnstile : TableId
   pub base : List Entry
   pub terms : Terms
   pub seen : List Entry
+  pub moments : List ℕ
   pub mine : List Call
   pub drawn : ℕ
   pub parts : ℕ

@@ -4,7 +4,7 @@ use Rattle.atomic_table.specs.Table.{Me, Step, rest}
 use Rattle.ocm_entry.specs.declared.entries.Entry.{Entry}
 use Rattle.ocm_turn.specs.declared.view.View.{View}
 use Rattle.ocm_turn.specs.declared.view.Stage.TheVariants.{Named}
-use Rattle.ocm_turn.specs.Calls.{IsOlderPart, StandIn, InOrder, call, merged, longer, shorter}
+use Rattle.ocm_turn.specs.Calls.{IsOlderPart, StandIn, InOrder, call, merged, longer, shorter, moments_of_longer, moments_of_shorter}
 use Rattle.ocm_turn.specs.Passes.{all_parts}
 
 module _ {G : Type 0} where
@@ -21,16 +21,16 @@ module _ {G : Type 0} where
   found_at v n = record v { drawn = n }
 
   -- the turn has come, at this history
-  abbrev pub turned_to : View G → List Entry → View G
-  turned_to v history = record v { seen = history; heard = history; turn = true }
+  abbrev pub turned_to : View G → List Entry → List ℕ → View G
+  turned_to v history moments = record v { seen = history; moments = moments; heard = history; heard_moments = moments; turn = true }
 
-  -- a call was finished with this entry
-  abbrev pub finished : View G → Entry → View G
-  finished v e = record v { seen = e ∷ v.seen; mine = call (unwrap_or v.ticket 0) e ∷ v.mine; ticket = None; turn = false }
+  -- a call was finished with this entry, at this moment
+  abbrev pub finished : View G → Entry → ℕ → View G
+  finished v e at = record v { seen = e ∷ v.seen; moments = at ∷ v.moments; mine = call (unwrap_or v.ticket 0) e ∷ v.mine; ticket = None; turn = false }
 
   -- a whole call, whose turn came at this history
-  abbrev pub called : View G → List Entry → Entry → View G
-  called v history e = finished (turned_to (ticketed v (length history)) history) e
+  abbrev pub called : View G → List Entry → List ℕ → Entry → ℕ → View G
+  called v history moments e at = finished (turned_to (ticketed v (length history)) history moments) e at
 
   -- what was seen is legal under the view's terms
   abbrev pub IsLegal : (G → List Entry → List Entry → Type 0) → View G → Type 0
@@ -46,18 +46,24 @@ module _ {G : Type 0} where
 
   -- both seats in one
   abbrev pub joined : View G → View G → View G
-  joined v w = record v { seen = longer v.seen w.seen; heard = shorter v.seen w.seen; mine = merged v.mine w.mine; met_base = w.base; met_terms = w.terms; drawn = max v.drawn w.drawn; parts = v.parts + w.parts }
+  joined v w = record v { seen = longer v.seen w.seen; moments = moments_of_longer v.seen w.seen v.moments w.moments; heard = shorter v.seen w.seen; heard_moments = moments_of_shorter v.seen w.seen v.moments w.moments; mine = merged v.mine w.mine; met_base = w.base; met_terms = w.terms; drawn = max v.drawn w.drawn; parts = v.parts + w.parts }
 
   -- what the rule says of a view by itself
   pub record Sound (v : View G) : Type 0 where
     pub heard : IsOlderPart v.heard v.seen
+    pub heard_noted : IsOlderPart v.heard_moments v.moments
+    pub paired : length v.moments ≡ length v.seen
     pub mine : StandIn v.seen v.mine
     pub order : InOrder v.mine
     pub met : (v.met_base ≡ v.base) × (v.met_terms ≡ v.terms)
 
--- a seat holds the value, and the value has the terms of the seat's view and stands for its base and this history, which are legal
-abbrev pub HasInHand : {T G : Type 0} → (T → G) → (T → List Entry → List Entry → Type 0) → (G → List Entry → List Entry → Type 0) → Me (Option T) (View G) → List Entry → Type 0
-HasInHand {T} terms_of stands legal m history = (x : T) × (m.1 ≡ (0, Some x) ∷ []) × (m.0.terms ≡ Some (terms_of x)) × stands x m.0.base history × legal (terms_of x) m.0.base history
+-- a value stands for a base and a history, and came to be by this history with these moments behind its entries
+abbrev pub StandsAt : {T : Type 0} → (T → List Entry → List Entry → Type 0) → (T → List Entry → List Entry → List ℕ → Type 0) → T → List Entry → List Entry → List ℕ → Type 0
+StandsAt stands came x base history moments = stands x base history × came x base history moments
+
+-- a seat holds the value, and the value has the terms of the seat's view and stands for its base and this history with these moments, which are legal
+abbrev pub HasInHand : {T G : Type 0} → (T → G) → (T → List Entry → List Entry → List ℕ → Type 0) → (G → List Entry → List Entry → Type 0) → Me (Option T) (View G) → List Entry → List ℕ → Type 0
+HasInHand {T} terms_of stands legal m history moments = (x : T) × (m.1 ≡ (0, Some x) ∷ []) × (m.0.terms ≡ Some (terms_of x)) × stands x m.0.base history moments × legal (terms_of x) m.0.base history
 
 module _ {T G : Type 0} where
   -- the base is named, at a load of word 0: one of which this is known
@@ -73,13 +79,13 @@ module _ {T G : Type 0} where
   rings st m r m' = m' ≡ m
 
   -- a look at word 1 whose turn has come takes the slot; a seat that has all parts has made as many calls as are done
-  abbrev pub looks : (T → G) → (T → List Entry → List Entry → Type 0) → (G → List Entry → List Entry → Type 0) → Step (Option T) → Me (Option T) (View G) → ℕ → Me (Option T) (View G) → Type 0
+  abbrev pub looks : (T → G) → (T → List Entry → List Entry → List ℕ → Type 0) → (G → List Entry → List Entry → Type 0) → Step (Option T) → Me (Option T) (View G) → ℕ → Me (Option T) (View G) → Type 0
   looks terms_of stands legal st m r m' =
-      (m.0.ticket ≡ Some r → (x : T) × (history : List Entry) × (m'.0 ≡ turned_to m.0 history) × (m'.1 ≡ (0, Some x) ∷ m.1)
-      × (m.0.terms ≡ Some (terms_of x)) × stands x m.0.base history × legal (terms_of x) m.0.base history × IsOlderPart m.0.seen history × (length history ≡ r))
+      (m.0.ticket ≡ Some r → (x : T) × (history : List Entry) × (moments : List ℕ) × (m'.0 ≡ turned_to m.0 history moments) × (m'.1 ≡ (0, Some x) ∷ m.1)
+      × (m.0.terms ≡ Some (terms_of x)) × stands x m.0.base history moments × legal (terms_of x) m.0.base history × IsOlderPart m.0.seen history × IsOlderPart m.0.moments moments × (length history ≡ r))
       × (m.0.ticket ≢ Some r → m' ≡ m)
       × Sound m'.0 × (length m'.0.mine ≤ m.0.limit + 1) × (m.0.parts ≡ all_parts → length m.0.mine ≡ r)
 
   -- a finish, by an add to word 1, gives the slot home
-  abbrev pub finishes : Entry → Step (Option T) → Me (Option T) (View G) → ℕ → Me (Option T) (View G) → Type 0
-  finishes e st m r m' = (m'.1 ≡ rest m.1) × (m'.0 ≡ finished m.0 e) × Sound m'.0 × (length m'.0.mine ≤ length m'.0.seen)
+  abbrev pub finishes : Entry → ℕ → Step (Option T) → Me (Option T) (View G) → ℕ → Me (Option T) (View G) → Type 0
+  finishes e at st m r m' = (m'.1 ≡ rest m.1) × (m'.0 ≡ finished m.0 e at) × Sound m'.0 × (length m'.0.mine ≤ length m'.0.seen)

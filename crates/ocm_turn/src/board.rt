@@ -1,17 +1,18 @@
-ghost use Rattle.std.specs.Prelude.{◌≡◌, ◌≢◌, ◌<◌, ◌≤◌, ◌+◌, ◌^◌, List, [], ◌∷◌, Option, Some, None, IfSome, IfNone, IfOk, IfErr, OnOk, OnErr, IsTrue, true, false, length};
+ghost use Rattle.std.specs.Prelude.{◌≡◌, ◌≢◌, ℕ, ◌<◌, ◌≤◌, ◌+◌, ◌^◌, List, [], ◌∷◌, Option, Some, None, IfSome, IfNone, IfOk, IfErr, OnOk, OnErr, IsTrue, true, false, length};
 ghost use Rattle.ocm_entry.specs.Proper.{is_proper};
 ghost use Rattle.ocm_entry.specs.declared.entries.Entry.{Entry};
 ghost use Rattle.ocm_turn.specs.Calls.{entry, IsOlderPart, StandIn, InOrder};
 ghost use Rattle.ocm_turn.specs.Passes.{all_parts};
 ghost use Rattle.ocm_turn.specs.Rule.{newcomer, IsIdle};
-ghost use Rattle.ocm_turn.specs.Steps.{named, ticketed, found_at, turned_to, finished, called, HasInHand, IsLegal, parted, beside, joined, Sound};
+ghost use Rattle.ocm_turn.specs.Steps.{named, ticketed, found_at, turned_to, finished, called, HasInHand, IsLegal, StandsAt, parted, beside, joined, Sound};
 ghost use Rattle.ocm_turn.specs.declared.view.Stage.TheVariants.{Named};
 
+use crate::dated::Dated;
 use crate::rule::{Cut, Draw, Finish, Founded, Glue, Law, LookAtDone, Name, Ring, Start, Told};
 use crate::turnstile::Spent;
 use crate::view::View;
 use atomic_table::{Seat, Table};
-use ocm_entry::{Ask, Object, Reply};
+use ocm_entry::{Ask, Reply};
 use std::alloc::Global;
 use std::hint::spin_loop;
 use std::marker::Brand;
@@ -34,7 +35,7 @@ const ASLEEP: u64 = 1;
 const VALUE: usize = 0;
 
 /// A seat at the table behind a turnstile.
-pub type TurnSeat<T: Object> = Seat<Option<T>, View<T::Terms>>;
+pub type TurnSeat<T: Dated> = Seat<Option<T>, View<T::Terms>>;
 
 /// The word on which the caller with this ticket sleeps.
 fn bell_of(ticket: u64) -> usize
@@ -44,20 +45,20 @@ fn bell_of(ticket: u64) -> usize
 }
 
 /// The table behind a turnstile, with the steps that keep its rule.
-pub struct TurnTable<T: Object> {
+pub struct TurnTable<T: Dated> {
     table: Table<Option<T>, View<T::Terms>, Start<T>, Law<T>, Global>,
     limit: u64,
     ghost limits: { (table.shared.key.limit ≡ limit) × (1 ≤ limit) × (limit ≤ 2 ^ 63) },
     ghost counts: { (table.shared.table_id.words ≡ 66) × (table.shared.table_id.slots ≡ 1) },
 }
 
-impl<T: Object + Drop> Drop for TurnTable<T> {
+impl<T: Dated + Drop> Drop for TurnTable<T> {
     fn drop(self) {
         let TurnTable { table: _, limit: _ } = self;
     }
 }
 
-impl<T: Object> TurnTable<T> {
+impl<T: Dated> TurnTable<T> {
     /// A board with the value at home, and its first seat. An `Err` is want of memory.
     pub fn make<J: Founded>(
         alloc: Global,
@@ -150,9 +151,9 @@ impl<T: Object> TurnTable<T> {
         requires own { seat.old.table_id ≡ self.now.table.shared.table_id }
         requires ticket { (seat.old.me.0.ticket ≡ Some ticket) × (seat.old.me.0.turn ≡ false) × (seat.old.me.0.stage ≡ Named) × (seat.old.me.1 ≡ []) }
         ensures own { seat.new.table_id ≡ seat.old.table_id }
-        ensures turn { (x : T) × (history : List Entry) × (seat.new.me.0 ≡ turned_to seat.old.me.0 history) × (seat.new.me.1 ≡ (0, Some x) ∷ [])
-            × (seat.old.me.0.terms ≡ Some (T.terms x)) × T.stands x seat.old.me.0.base history × T.legal (T.terms x) seat.old.me.0.base history
-            × IsOlderPart seat.old.me.0.seen history × (length history ≡ ticket) }
+        ensures turn { (x : T) × (history : List Entry) × (moments : List ℕ) × (seat.new.me.0 ≡ turned_to seat.old.me.0 history moments) × (seat.new.me.1 ≡ (0, Some x) ∷ [])
+            × (seat.old.me.0.terms ≡ Some (T.terms x)) × StandsAt T.stands T.came x seat.old.me.0.base history moments × T.legal (T.terms x) seat.old.me.0.base history
+            × IsOlderPart seat.old.me.0.seen history × IsOlderPart seat.old.me.0.moments moments × (length history ≡ ticket) }
         ensures sound { Sound seat.new.me.0 }
         ensures whole { seat.old.me.0.parts ≡ all_parts → length seat.old.me.0.mine ≡ ticket }
     {
@@ -186,16 +187,21 @@ impl<T: Object> TurnTable<T> {
         shown | ASLEEP
     }
 
-    /// Asks the value in the seat's hands. It stays in its slot: nothing of it is moved.
-    fn ask_value(&self, seat: &mut TurnSeat<T>, ask: Ask) -> Reply
+    /// Asks the value in the seat's hands, and tells with the reply what the value is behind the step. It stays in its
+    /// slot: nothing of it is moved.
+    fn ask_value(&self, seat: &mut TurnSeat<T>, ask: Ask) -> (Reply, Snapshot<T>)
         requires own { seat.old.table_id ≡ self.now.table.shared.table_id }
         requires proper { IsTrue (is_proper ask) }
-        requires value { HasInHand T.terms T.stands T.legal seat.old.me seat.old.me.0.seen }
+        requires value { HasInHand T.terms (StandsAt T.stands T.came) T.legal seat.old.me seat.old.me.0.seen seat.old.me.0.moments }
         ensures own { (seat.new.table_id ≡ seat.old.table_id) × (seat.new.me.0 ≡ seat.old.me.0) }
-        ensures value { HasInHand T.terms T.stands T.legal seat.new.me (entry ask result ∷ seat.old.me.0.seen) }
+        ensures value { HasInHand T.terms (StandsAt T.stands T.came) T.legal seat.new.me (entry ask result.0 ∷ seat.old.me.0.seen) (T.moment result.1.value ∷ seat.old.me.0.moments) }
     {
         match seat.slot_mut(&self.table.shared, VALUE) {
-            Some(value) => value.act(ask),
+            Some(value) => {
+                let reply = value.step(ask);
+                let behind = Snapshot::of(&*value);
+                (reply, behind)
+            }
             None => unreachable!(),
         }
     }
@@ -209,14 +215,21 @@ impl<T: Object> TurnTable<T> {
         self.table.shared.exchange(&mut seat, VALUE, None).unwrap()
     }
 
-    /// Ends a call: the history gets its entry, and the next ticket has its turn.
-    pub fn finish<E: Told>(&self, seat: &mut TurnSeat<T>, ask: &Snapshot<Ask>, reply: &Reply)
+    /// Ends a call: the history gets its entry, with the moment of the value behind the call, and the next ticket has its
+    /// turn.
+    pub fn finish<E: Told>(
+        &self,
+        seat: &mut TurnSeat<T>,
+        ask: &Snapshot<Ask>,
+        reply: &Reply,
+        behind: &Snapshot<T>,
+    )
         requires own { seat.old.table_id ≡ self.now.table.shared.table_id }
-        requires told { E.told ≡ entry ask.now.value reply.now }
+        requires told { (E.told ≡ entry ask.now.value reply.now) × (E.moment ≡ T.moment behind.now.value) }
         requires turn { (seat.old.me.0.turn ≡ true) × (seat.old.me.0.stage ≡ Named) }
-        requires value { HasInHand T.terms T.stands T.legal seat.old.me (E.told ∷ seat.old.me.0.seen) }
+        requires value { HasInHand T.terms (StandsAt T.stands T.came) T.legal seat.old.me (E.told ∷ seat.old.me.0.seen) (E.moment ∷ seat.old.me.0.moments) }
         ensures own { (seat.new.table_id ≡ seat.old.table_id) × (seat.new.me.1 ≡ []) }
-        ensures told { seat.new.me.0 ≡ finished seat.old.me.0 E.told }
+        ensures told { seat.new.me.0 ≡ finished seat.old.me.0 E.told E.moment }
         ensures sound { Sound seat.new.me.0 × (length seat.new.me.0.mine ≤ length seat.new.me.0.seen) }
     {
         let done = self.table.shared.fetch_add::<Finish<E>>(seat, DONE, 1);
@@ -250,9 +263,9 @@ impl<T: Object> TurnTable<T> {
         requires own { (seat.old.table_id ≡ self.now.table.shared.table_id) × IsIdle seat.old.me.0 × (seat.old.me.1 ≡ []) }
         requires proper { IsTrue (is_proper ask) }
         ensures own { (seat.new.table_id ≡ seat.old.table_id) × (seat.new.me.1 ≡ []) }
-        ensures ok { IfOk result (λ r. (history : List Entry)
-            × (seat.new.me.0 ≡ called seat.old.me.0 history (entry ask r))
-            × IsOlderPart seat.old.me.0.seen history × (seat.old.me.0.drawn ≤ length history) × (length history < self.now.limit)) }
+        ensures ok { IfOk result (λ r. (history : List Entry) × (moments : List ℕ) × (at : ℕ)
+            × (seat.new.me.0 ≡ called seat.old.me.0 history moments (entry ask r) at)
+            × IsOlderPart seat.old.me.0.seen history × IsOlderPart seat.old.me.0.moments moments × (seat.old.me.0.drawn ≤ length history) × (length history < self.now.limit)) }
         ensures legal { OnOk result (IsLegal T.legal seat.new.me.0) }
         ensures sound { OnOk result (Sound seat.new.me.0 × (length seat.new.me.0.mine ≤ length seat.new.me.0.seen)) }
         ensures err { OnErr result ((seat.new.me.0 ≡ found_at seat.old.me.0 seat.new.me.0.drawn) × (self.now.limit ≤ seat.new.me.0.drawn) × (seat.old.me.0.drawn ≤ seat.new.me.0.drawn)) }
@@ -260,8 +273,8 @@ impl<T: Object> TurnTable<T> {
         let ticket = self.draw(rt, seat).ok_or(Spent)?;
         self.wait_turn(rt, seat, ticket);
         let said = Snapshot::of(&ask);
-        let reply = self.ask_value(seat, ask);
-        self.finish::<Brand>(seat, &said, &reply);
+        let (reply, behind) = self.ask_value(seat, ask);
+        self.finish::<Brand>(seat, &said, &reply, &behind);
         Ok(reply)
     }
 
@@ -269,8 +282,8 @@ impl<T: Object> TurnTable<T> {
     pub fn take_last<R: Wait>(&self, rt: &R, mut seat: TurnSeat<T>) -> (T, u64)
         requires own { (seat.table_id ≡ self.now.table.shared.table_id) × IsIdle seat.me.0 × (seat.me.1 ≡ []) }
         ensures terms { seat.me.0.terms ≡ Some (T.terms result.0) }
-        ensures history { (history : List Entry) × T.stands result.0 seat.me.0.base history × T.legal (T.terms result.0) seat.me.0.base history
-            × IsOlderPart seat.me.0.seen history × (result.1 ≡ length history) × StandIn history seat.me.0.mine }
+        ensures history { (history : List Entry) × (moments : List ℕ) × StandsAt T.stands T.came result.0 seat.me.0.base history moments × T.legal (T.terms result.0) seat.me.0.base history
+            × IsOlderPart seat.me.0.seen history × (result.1 ≡ length history) × StandIn history seat.me.0.mine × IsOlderPart seat.me.0.moments moments × (length moments ≡ length history) }
         ensures order { InOrder seat.me.0.mine }
         ensures whole { seat.me.0.parts ≡ all_parts → length seat.me.0.mine ≡ result.1 }
         ensures drawn { seat.me.0.drawn ≤ result.1 }

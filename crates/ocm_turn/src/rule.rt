@@ -1,14 +1,14 @@
-ghost use Rattle.std.specs.Prelude.{List, ⊤};
+ghost use Rattle.std.specs.Prelude.{List, ℕ, ⊤};
 ghost use Rattle.ocm_entry.specs.declared.asks.Ask.TheVariants as asks;
 ghost use Rattle.ocm_entry.specs.declared.replies.Reply.TheVariants as replies;
 ghost use Rattle.ocm_entry.specs.declared.entries.Entry.{Entry};
 ghost use Rattle.ocm_turn.specs.Calls.{entry};
 ghost use Rattle.ocm_turn.specs.Rule.{Holds, newcomer, spent_view};
-ghost use Rattle.ocm_turn.specs.Steps.{names, draws, rings, looks, finishes, parted, beside, joined};
+ghost use Rattle.ocm_turn.specs.Steps.{StandsAt, names, draws, rings, looks, finishes, parted, beside, joined};
 
+use crate::dated::Dated;
 use crate::view::View;
 use atomic_table::{Join, Play, Split, TableRule};
-use ocm_entry::Object;
 use std::marker::{Brand, PhantomData};
 use std::snapshot::Snapshot;
 
@@ -24,8 +24,8 @@ pub struct Start<T> {
     pub value: Snapshot<T>,
 }
 
-impl<T: Object> TableRule<Option<T>, View<T::Terms>, Start<T>> for Law<T> {
-    ghost holds = { λ key. Holds T.terms T.stands T.legal key.limit key.value.value };
+impl<T: Dated> TableRule<Option<T>, View<T::Terms>, Start<T>> for Law<T> {
+    ghost holds = { λ key. Holds T.terms (StandsAt T.stands T.came) T.legal key.limit key.value.value };
 
     ghost first = { λ key. newcomer key.limit (T.terms key.value.value) };
 }
@@ -66,17 +66,21 @@ impl<T, G> Play<Option<T>, View<G>> for Ring {
 /// A look at the number of calls done.
 pub struct LookAtDone;
 
-impl<T: Object> Play<Option<T>, View<T::Terms>> for LookAtDone {
-    ghost then = { looks T.terms T.stands T.legal };
+impl<T: Dated> Play<Option<T>, View<T::Terms>> for LookAtDone {
+    ghost then = { looks T.terms (StandsAt T.stands T.came) T.legal };
 }
 
-/// The entry that a finish adds to the history. Each finish picks it.
+/// The entry that a finish adds to the history, and the moment behind it. Each finish picks them.
 pub trait Told {
     ghost told: { Entry };
+
+    ghost moment: { ℕ };
 }
 
 impl Told for Brand {
     ghost told = { entry asks.Due replies.Done };
+
+    ghost moment = { 0 };
 }
 
 /// The end of a call.
@@ -85,7 +89,7 @@ pub struct Finish<E> {
 }
 
 impl<T, G, E: Told> Play<Option<T>, View<G>> for Finish<E> {
-    ghost then = { finishes E.told };
+    ghost then = { finishes E.told E.moment };
 }
 
 /// A seat cut in two.

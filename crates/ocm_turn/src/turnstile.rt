@@ -1,14 +1,15 @@
-ghost use Rattle.std.specs.Prelude.{◌≡◌, ◌<◌, ◌≤◌, ◌^◌, List, [], ◌∷◌, IfOk, IfErr, OnOk, OnErr, IsOkAnd, IsTrue, length, max, ◌+◌, ◌-◌};
+ghost use Rattle.std.specs.Prelude.{◌≡◌, ℕ, ◌<◌, ◌≤◌, ◌^◌, List, [], ◌∷◌, IfOk, IfErr, OnOk, OnErr, IsOkAnd, IsTrue, length, max, ◌+◌, ◌-◌};
 ghost use Rattle.ocm_entry.specs.Proper.{is_proper};
 ghost use Rattle.ocm_entry.specs.declared.entries.Entry.{Entry};
-ghost use Rattle.ocm_turn.specs.Calls.{entry, call, IsOlderPart, StandIn, InOrder, longer, merged};
+ghost use Rattle.ocm_turn.specs.Calls.{entry, call, IsOlderPart, StandIn, InOrder, longer, moments_of_longer, merged};
 ghost use Rattle.ocm_turn.specs.Passes.{BelongsTo, SameGround, all_parts};
 
 use crate::board::TurnTable;
+use crate::dated::Dated;
 use crate::pass::Pass;
 use crate::rule::Founded;
 use ocm_base::NoMemory;
-use ocm_entry::{Ask, Object, Reply};
+use ocm_entry::{Ask, Reply};
 use std::alloc::Global;
 use std::marker::Model;
 use std::sync::Wait;
@@ -29,17 +30,17 @@ pub struct Shut<T> {
 /// Each call draws a ticket and waits for its turn. Whatever order the callers come in, all replies
 /// are those of one legal history. Threads share a turnstile by reference, and each has a [`Pass`] of
 /// its own.
-pub struct Turnstile<T: Object> {
+pub struct Turnstile<T: Dated> {
     board: TurnTable<T>,
 }
 
-impl<T: Object + Drop> Drop for Turnstile<T> {
+impl<T: Dated + Drop> Drop for Turnstile<T> {
     fn drop(self) {
         let Turnstile { board: _ } = self;
     }
 }
 
-impl<T: Object> Model for Turnstile<T> {
+impl<T: Dated> Model for Turnstile<T> {
     ghost use Rattle.ocm_turn.specs.Passes.{Gate};
 
     ghost Value = { Gate };
@@ -47,7 +48,7 @@ impl<T: Object> Model for Turnstile<T> {
     ghost view = { λ t. record { id = t.board.table.shared.table_id; limit = t.board.limit } };
 }
 
-impl<T: Object> Turnstile<T> {
+impl<T: Dated> Turnstile<T> {
     /// A turnstile in front of the value, for `limit` calls, and its first pass. Where memory is
     /// wanting the value comes back.
     pub fn make<J: Founded>(
@@ -61,7 +62,7 @@ impl<T: Object> Turnstile<T> {
         ensures own { IfOk result (λ r. BelongsTo r.0 r.1) }
         ensures terms { IfOk result (λ r. r.1.terms ≡ T.terms value) }
         ensures base { IfOk result (λ r. J.known r.1.base × T.stands value r.1.base [] × T.legal r.1.terms r.1.base []) }
-        ensures new { IfOk result (λ r. (r.1.seen ≡ []) × (r.1.mine ≡ []) × (r.1.drawn ≡ 0)) }
+        ensures new { IfOk result (λ r. (r.1.seen ≡ []) × (r.1.moments ≡ []) × (r.1.mine ≡ []) × (r.1.drawn ≡ 0)) }
         ensures whole { IfOk result (λ r. r.1.parts ≡ all_parts) }
         ensures err { IfErr result (λ v. v ≡ value) }
     {
@@ -72,7 +73,8 @@ impl<T: Object> Turnstile<T> {
     }
 
     /// Makes one call of the value: waits for its turn, asks, and answers the reply. The pass knows the
-    /// history up to it from then on. `Spent` says that the limit is reached, and that nothing happened.
+    /// history up to it from then on, and the moment behind it. `Spent` says that the limit is reached, and
+    /// that nothing happened.
     pub fn call<R: Wait>(&self, rt: &R, pass: &mut Pass<T>, ask: Ask) -> Result<Reply, Spent>
         requires own { BelongsTo self.now pass.old }
         requires proper { IsTrue (is_proper ask) }
@@ -86,6 +88,10 @@ impl<T: Object> Turnstile<T> {
         ensures spent { OnErr result (self.now.limit ≤ pass.new.drawn) }
         ensures nothing { OnErr result ((pass.new.seen ≡ pass.old.seen) × (pass.new.mine ≡ pass.old.mine)) }
         ensures drawn { pass.old.drawn ≤ pass.new.drawn }
+        // The moment behind the call stands in front of those behind the earlier ones.
+        ensures moments { IfOk result (λ r. (at : ℕ) × (earlier : List ℕ) × (pass.new.moments ≡ at ∷ earlier) × IsOlderPart pass.old.moments earlier) }
+        ensures paired { length pass.new.moments ≡ length pass.new.seen }
+        ensures no_moment { OnErr result (pass.new.moments ≡ pass.old.moments) }
     {
         let reply = self.board.take_turn(rt, &mut pass.seat, ask)?;
         pass.calls += 1;
@@ -100,7 +106,7 @@ impl<T: Object> Turnstile<T> {
         ensures same { pass.new ≡ record pass.old { parts = pass.old.parts - 1 } }
         ensures own { IsOkAnd result (λ p. BelongsTo self.now p) }
         ensures ground { IfOk result (λ p. SameGround pass.old p) }
-        ensures new { IfOk result (λ p. (p.seen ≡ pass.old.seen) × (p.mine ≡ []) × (p.drawn ≡ pass.old.drawn)) }
+        ensures new { IfOk result (λ p. (p.seen ≡ pass.old.seen) × (p.moments ≡ pass.old.moments) × (p.mine ≡ []) × (p.drawn ≡ pass.old.drawn)) }
         ensures part { 1 < pass.old.parts → IfOk result (λ p. p.parts ≡ 1) }
     {
         let seat = self.board.split(&mut pass.seat);
@@ -114,6 +120,8 @@ impl<T: Object> Turnstile<T> {
         ensures other { SameGround other pass.new }
         ensures seen { pass.new.seen ≡ longer pass.old.seen other.seen }
         ensures older { IsOlderPart pass.old.seen pass.new.seen × IsOlderPart other.seen pass.new.seen }
+        ensures moments { pass.new.moments ≡ moments_of_longer pass.old.seen other.seen pass.old.moments other.moments }
+        ensures older_moments { IsOlderPart pass.old.moments pass.new.moments × IsOlderPart other.moments pass.new.moments }
         ensures legal { T.legal pass.new.terms pass.new.base pass.new.seen }
         ensures mine { pass.new.mine ≡ merged pass.old.mine other.mine }
         ensures stand { StandIn pass.new.seen pass.new.mine × InOrder pass.new.mine }
@@ -131,7 +139,8 @@ impl<T: Object> Turnstile<T> {
         requires own { BelongsTo self pass }
         ensures terms { T.terms result.value ≡ pass.terms }
         ensures history { (history : List Entry) × T.stands result.value pass.base history × T.legal pass.terms pass.base history
-            × IsOlderPart pass.seen history × StandIn history pass.mine × (result.calls ≡ length history) }
+            × IsOlderPart pass.seen history × StandIn history pass.mine × (result.calls ≡ length history)
+            × (moments : List ℕ) × T.came result.value pass.base history moments × IsOlderPart pass.moments moments × (length moments ≡ length history) }
         ensures order { InOrder pass.mine }
         ensures whole { pass.parts ≡ all_parts → length pass.mine ≡ result.calls }
         ensures drawn { pass.drawn ≤ result.calls }

@@ -24,8 +24,12 @@ pub struct View<G> {
     pub terms: Option<G>,
     pub base: LinkedList<Entry>,
     pub seen: LinkedList<Entry>,
+    /// The moments behind the entries of `seen`, as many as these.
+    pub moments: LinkedList<u64>,
     /// An older part of `seen` that was another seat's `seen`, after a join.
     pub heard: LinkedList<Entry>,
+    /// The moments behind the entries of `heard`.
+    pub heard_moments: LinkedList<u64>,
     pub mine: LinkedList<Call>,
     /// The base of the seat that was joined last, or the own one.
     pub met_base: LinkedList<Entry>,

@@ -6,7 +6,7 @@ use Rattle.ocm_entry.specs.declared.entries.Entry.{Entry}
 use Rattle.ocm_journal.specs.Openings.{StaysAsItOpens}
 use Rattle.ocm_serve_store.specs.Runs.{HasServed, IsCounted, IsDiskFault, IsSaid}
 use Rattle.ocm_server.specs.declared.served.Served.{Served}
-use Rattle.ocm_serve_store.proofs.Told.{based, loaded-counted, loaded-said, loaded-sound, opened_same, refused-counted, refused-said, run-keeps, run-leaves, sound-told, unserved}
+use Rattle.ocm_serve_store.proofs.Told.{based, loaded-counted, loaded-said, loaded-sound, opened_same, refused-counted, refused-said, run-keeps, run-leaves, run-since, sound-told, unserved}
 use Rattle.ocm_store.specs.Opening as stores
 use Rattle.ocm_store.specs.Opening.{IsOfArea, loading}
 use Rattle.ocm_store.specs.Stores.{area_of, disk_of}
@@ -35,6 +35,7 @@ returns-in-Ok-load-clause-served g c = λ calls own has.
       any_moment = λ tells. run-leaves d laws.only_now c.args.plan.now.host 536870656 _ _ _ c.args.disk _ _ _ _ run tells
           (subst (λ (h : List ℕ). LeavesOnly d.moment d.left_since c.args.disk (disk_of c.in-Ok-load.store) (λ x. d.may_leave c.args.disk x ⊎ StaysAsItOpens h 536870656 (d.seen c.args.disk) x)) names.1 (c.in-Ok-load.ensures.moments_ok tells));
       kept = λ done later is. run-keeps d laws.only_now _ _ _ _ _ _ _ run done later is;
+      since = λ tells. run-since d laws.only_now _ _ _ _ _ _ _ run tells;
     }
 
 pub returns-in-Ok-load-clause-said : goal.returns-in-Ok-load-clause-said

@@ -1,4 +1,3 @@
-use Rattle.std.proofs.Common.{ap, ◌∙◌}
 use Rattle.ocm_dav.specs.Sound.{is_requested}
 use Rattle.ocm_server_connections.proofs.Paging.{act_page, or_left}
 use Rattle.ocm_server_connections.proofs.Responses.{responds_reply}

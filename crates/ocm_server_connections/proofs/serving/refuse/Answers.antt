@@ -1,7 +1,7 @@
 use Rattle.std.proofs.Common.{refl}
 use Rattle.ocm_http.specs.declared.messages.FrameFault.TheVariants as faults
 use Rattle.ocm_server_connections.specs.declared.endings.Ended.TheVariants as endings
-use Rattle.ocm_server_connections.specs.Parts.{Refuses, Writing}
+use Rattle.ocm_server_connections.specs.Parts.{Refuses}
 use Rattle.ocm_server_connections.proofs.Writings.{nothing_written, refuse_is}
 use Rattle.ocm_server_connections.proofs.serving.refuse.Goals as goal
 

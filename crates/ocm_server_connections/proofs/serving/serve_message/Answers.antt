@@ -1,4 +1,4 @@
-use Rattle.std.proofs.Common.{Ok, Err, Some, None, ◌+◌}
+use Rattle.std.proofs.Common.{Some, None, ◌+◌}
 use Rattle.ocm_server_connections.specs.Parts.{state, stand}
 use Rattle.ocm_server_connections.proofs.Talking.{goes_request, goes_over, goes_fault, served_more, open_after, request_after, if_none, ok_of}
 use Rattle.ocm_server_connections.proofs.serving.serve_message.Goals as goal

@@ -12,4 +12,5 @@ returns-clause-served g c =
     (state (g.C.Conn.sides c.finish.new.conn) c.next-fresh.new.self (g.K.Clock.given c.now-now.new.self) c.answer-answered.new.pass)
     c.next-fresh.result c.now-now.result c.answer-answered.result c.ending_after-after.result c.finish.result
     c.ending_after-after.ensures c.counted-message.ensures c.next-fresh.ensures.value c.next-fresh.ensures.place c.now-now.ensures
-    c.answer-answered.ensures.answers c.answer-answered.ensures.spent c.answer-answered.ensures.unspent c.finish.ensures
+    c.answer-answered.ensures.answers c.answer-answered.ensures.spent c.answer-answered.ensures.unspent
+    (record { stand = c.calls-calls.ensures.stand.0; order = c.calls-calls.ensures.stand.1; paired = c.calls-calls.ensures.paired }) c.finish.ensures

@@ -1,6 +1,5 @@
-use Rattle.std.proofs.Common.{◌≡◌, ◌∙◌, ◌<◌, ◌≤◌, sym, refl, length, true, false, arith}
-use Rattle.std.specs.Prelude.{not}
-use Rattle.ocm_server_rounds.specs.Rounds.{hold, is_whole}
+use Rattle.std.proofs.Common.{◌∙◌, sym, refl, arith}
+use Rattle.ocm_server_rounds.specs.Rounds.{hold}
 use Rattle.ocm_server_rounds.proofs.Rounding.{leads_nothing, leads_on, leads_off, leads_all, not_spent_whole}
 use Rattle.ocm_server_rounds.proofs.rounds.deliver_all.Goals as goal
 

@@ -2,4 +2,4 @@ use Rattle.ocm_turn.proofs.MoveLemmas.{moved_call}
 use Rattle.ocm_server_rounds.proofs.settling.ask_node.Goals as goal
 
 pub returns-clause-ok : goal.returns-clause-ok
-returns-clause-ok g c = moved_call c.args.pass.now c.call.new.pass c.args.ask c.call.result c.call.ensures.ground c.call.ensures.seen c.call.ensures.mine c.call.ensures.drawn
+returns-clause-ok g c = moved_call c.args.pass.now c.call.new.pass c.args.ask c.call.result c.call.ensures.ground c.call.ensures.seen c.call.ensures.mine c.call.ensures.drawn c.call.ensures.moments c.call.ensures.paired

@@ -37,4 +37,5 @@ invariant_of-pass g c =
       c.join.ensures.sound.0.mine,
       c.join.ensures.sound.0.order,
       legal_joined c.pass.inside.seat.me.0 c.other.inside.seat.me.0 c.join.new.seat.me.0 (ap (λ (m : Me (Option g.row.T.Denot) (View g.row.T-Terms.Denot)). m.0) is) c.join.ensures.sound.0 g.T.Object.legal _ _ _ c.pass.invariant.6 c.other.invariant.6,
+      c.join.ensures.sound.0.paired,
     )

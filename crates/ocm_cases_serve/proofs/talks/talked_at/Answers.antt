@@ -1,0 +1,10 @@
+use Rattle.std.proofs.Common.{[], ◌∙◌, sym, subst}
+use Rattle.ocm_store.specs.Stores.{IsLegalUnder, Stands, terms_of}
+use Rattle.ocm_cases_serve.proofs.talks.talked_at.Goals as goal
+
+-- a store that is followed from now on stands for what it stood for, and came to be by no calls
+pub make-requires-clause-value : goal.make-requires-clause-value
+make-requires-clause-value g c =
+    let r = c.requires in
+    let is = sym c.new.ensures.store in
+    (r.0, tt, (subst (λ s. Stands _ s r.0 []) is r.1, c.new.ensures.store ∙ sym c.new.ensures.born), subst (λ s. IsLegalUnder (terms_of s) r.0 []) is r.2)

@@ -1,0 +1,61 @@
+-- Answers that are on the disk by the time at which they are written. Histories stand newest first.
+use Rattle.std.specs.Prelude.{◌≡◌, ℕ, Bool, List, [], ◌∷◌, ◌++◌, ⊤}
+use Rattle.rand_chacha.specs.ChaCha.{ChaCha}
+use Rattle.ocm_dav.specs.declared.configs.Config.{Config}
+use Rattle.ocm_disk.specs.declared.disk.Disk.{Ghosts}
+use Rattle.ocm_entry.specs.declared.entries.Entry.{Entry}
+use Rattle.ocm_serve_store.specs.Runs.{KeepsSince}
+use Rattle.ocm_serve_store.specs.declared.followed.Origin.{Origin}
+use Rattle.ocm_server.specs.Objects.{Past, Shift}
+use Rattle.ocm_server.specs.Visits.{Desk, Visit, Visits, Work}
+use Rattle.ocm_server_connections.specs.Noting.{EachAt}
+use Rattle.ocm_server_connections.specs.Sides.{Sides}
+use Rattle.ocm_store.specs.Courses.{LeavesAlong, LeavesSince}
+use Rattle.ocm_store.specs.declared.terms.Terms.{Terms}
+use Rattle.ocm_turn.specs.Calls.{InOrder, StandIn, entries}
+use Rattle.ocm_turn.specs.Passes.{Gate, Known}
+use Rattle.ocm_turn.specs.declared.view.Call.{Call}
+
+-- With a page one moment of the disk was noted, by which these calls of a worker had been made. They stand, behind all that the worker had called before, in
+-- their order among the calls `done` with which the one history begins. By the end of the run that moment has been, and since then a crash leaves what may
+-- follow `done`, or a later call, of the disk that came back.
+pub record OnDisk {D : Type 0} (disk : Ghosts D) (terms : Terms) (k : List Entry) (past : Past) (after : D) (mine : List Call) (calls : List Entry) (moments : List ℕ) : Type 0 where
+  pub at : ℕ
+  pub noted_is : moments ≡ at ∷ []
+  pub done : List Entry
+  pub later : List Entry
+  pub split : past.history ≡ later ++ done
+  -- the worker's calls behind these, these, and those before them
+  pub newer : List Call
+  pub own : List Call
+  pub older : List Call
+  pub part : mine ≡ newer ++ (own ++ older)
+  pub own_are : entries own ≡ calls
+  pub stand : StandIn done (own ++ older)
+  pub order : InOrder (own ++ older)
+  pub since : LeavesSince disk after at (LeavesAlong terms k done later)
+
+-- where there are calls
+abbrev pub IsOnDisk : {D : Type 0} (disk : Ghosts D) → Terms → List Entry → Past → D → List Call → List Entry → List ℕ → Type 0
+IsOnDisk disk terms k past after mine [] moments = ⊤
+IsOnDisk disk terms k past after mine (e ∷ calls) moments = OnDisk disk terms k past after mine (e ∷ calls) moments
+
+-- this is known of each page of these visits, by the calls of its connection up to it and by the moments that were noted with it
+abbrev pub EachPage : {C T : Type 0} (sides : C → Sides) (config : Config) (limit : ℕ) (delivers : Bool) → (List Entry → List ℕ → Type 0)
+    → (visits : List (Visit C)) (old new : Desk T) → Visits sides config limit delivers visits old new → Type 0
+EachPage sides config limit delivers K [] old new visits = ⊤
+EachPage sides config limit delivers K (v ∷ before) old new (middle, earlier, visited) =
+    EachAt K [] visited.talked.talk visited.talked.deeds.noted × EachPage sides config limit delivers K before old middle earlier
+
+-- Each page of a worker that answers calls was noted with a moment by which these calls were on the disk, from which no crash takes them since. It is
+-- said of the connections that the worker's door tells, where they note moments.
+abbrev pub AnswersOnDisk : {D C T : Type 0} (disk : Ghosts D) (terms : Terms) (k : List Entry) (past : Past) (after : D) {sides : C → Sides} {config : Config} {gate : Gate} {first : Known T} {draw : ChaCha}
+    {old new : Work C T} {calls : List Call} → Shift sides config gate first draw old new calls past → Type 0
+AnswersOnDisk disk terms k past after {sides} {config} {gate} {first} {draw} {old} {new} {calls} shift =
+    EachPage sides config gate.limit old.delivers (IsOnDisk disk terms k past after calls) shift.worked.serves.visits _ _ shift.worked.serves.served
+
+-- So it is where since the moment behind each call a crash leaves what may follow that call, or a later one.
+abbrev pub AnswersAreOnDisk : {D C : Type 0} → Ghosts D → (C → Sides) → Type 0
+AnswersAreOnDisk {D} {C} disk sides = (terms : Terms) (k : List Entry) (past : Past) (after : D) → KeepsSince disk terms k past.history past.moments after
+    → (config : Config) (gate : Gate) (first : Known (Origin D disk)) (draw : ChaCha) (old new : Work C (Origin D disk)) (calls : List Call) (shift : Shift sides config gate first draw old new calls past)
+    → AnswersOnDisk disk terms k past after shift
