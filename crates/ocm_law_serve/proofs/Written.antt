@@ -18,6 +18,7 @@ use Rattle.ocm_server_connections.specs.declared.endings.Ended.{Ended}
 use Rattle.ocm_server_connections.specs.declared.endings.Missed.{Missed}
 use Rattle.ocm_server_rounds.specs.Rounds.{Hold, hold}
 use Rattle.ocm_server_rounds.specs.declared.pumped.Pumped.{Pumped}
+use Rattle.ocm_store.specs.Courses.{IsMomentBehind}
 use Rattle.ocm_store.specs.declared.terms.Terms.{Terms}
 use Rattle.ocm_turn.specs.Calls.{InOrder, IsOlderPart, StandIn, entries}
 use Rattle.ocm_turn.specs.Moves.{Moved}
@@ -85,22 +86,25 @@ module _ {D T : Type 0} (disk : Ghosts D) (terms : Terms) (k : List Entry) (past
           let many = something-seen kept.pass.seen own first.mine e calls kept.made.mine.2 stand in
           let few : 0 ≡ length kept.pass.seen = sym (ap length is) ∙ kept.sound.paired in
           absurd (omega (arith, many, few))
-      by_moments (at ∷ earlier) is = record {
-        at = at;
-        noted_is = kept.newest ∙ ap newest_of is;
-        done = kept.pass.seen;
-        later = here.0.history.0;
-        split = here.0.history.1;
-        newer = here.1.0;
-        own = own;
-        older = first.mine;
-        part = here.1.1 ∙ ap (λ (m : List Call). here.1.0 ++ m) kept.made.mine.1;
-        own_are = kept.made.mine.2;
-        stand = stand;
-        order = subst (λ (m : List Call). InOrder m) kept.made.mine.1 kept.sound.order;
-        since = keeps kept.pass.seen here.0.history.0 at here.0.history.1
-            (here.0.moments.0, earlier, here.0.moments.1 ∙ ap (λ (m : List ℕ). here.0.moments.0 ++ m) is, sym (ap length is) ∙ kept.sound.paired);
-      }
+      by_moments (at ∷ earlier) is =
+          let behind : IsMomentBehind kept.pass.seen past.moments at =
+          (here.0.moments.0, earlier, here.0.moments.1 ∙ ap (λ (m : List ℕ). here.0.moments.0 ++ m) is, sym (ap length is) ∙ kept.sound.paired) in
+          record {
+            at = at;
+            noted_is = kept.newest ∙ ap newest_of is;
+            done = kept.pass.seen;
+            later = here.0.history.0;
+            split = here.0.history.1;
+            behind = behind;
+            newer = here.1.0;
+            own = own;
+            older = first.mine;
+            part = here.1.1 ∙ ap (λ (m : List Call). here.1.0 ++ m) kept.made.mine.1;
+            own_are = kept.made.mine.2;
+            stand = stand;
+            order = subst (λ (m : List Call). InOrder m) kept.made.mine.1 kept.sound.order;
+            since = keeps kept.pass.seen here.0.history.0 at here.0.history.1 behind;
+          }
 
   pages-on-disk : {C : Type 0} (sides : C → Sides) (config : Config) (limit : ℕ) (delivers : Bool) (visits : List (Visit C)) (old new : Desk T) (all : Visits sides config limit delivers visits old new)
       → Follows past mine (Some new.pass) → EachPage sides config limit delivers (IsOnDisk disk terms k past after mine) visits old new all

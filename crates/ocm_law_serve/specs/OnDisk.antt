@@ -10,14 +10,14 @@ use Rattle.ocm_server.specs.Objects.{Past, Shift}
 use Rattle.ocm_server.specs.Visits.{Desk, Visit, Visits, Work}
 use Rattle.ocm_server_connections.specs.Noting.{EachAt}
 use Rattle.ocm_server_connections.specs.Sides.{Sides}
-use Rattle.ocm_store.specs.Courses.{LeavesAlong, LeavesSince}
+use Rattle.ocm_store.specs.Courses.{IsMomentBehind, LeavesAlong, LeavesSince}
 use Rattle.ocm_store.specs.declared.terms.Terms.{Terms}
 use Rattle.ocm_turn.specs.Calls.{InOrder, StandIn, entries}
 use Rattle.ocm_turn.specs.Passes.{Gate, Known}
 use Rattle.ocm_turn.specs.declared.view.Call.{Call}
 
--- With a page one moment of the disk was noted, by which these calls of a worker had been made. They stand, behind all that the worker had called before, in
--- their order among the calls `done` with which the one history begins. By the end of the run that moment has been, and since then a crash leaves what may
+-- With a page one moment of the disk was noted: that behind the newest of the calls `done`, with which the one history begins. In them stand these calls of
+-- a worker in their order, behind all that the worker had called before. By the end of the run that moment has been, and since then a crash leaves what may
 -- follow `done`, or a later call, of the disk that came back.
 pub record OnDisk {D : Type 0} (disk : Ghosts D) (terms : Terms) (k : List Entry) (past : Past) (after : D) (mine : List Call) (calls : List Entry) (moments : List ℕ) : Type 0 where
   pub at : ℕ
@@ -25,6 +25,7 @@ pub record OnDisk {D : Type 0} (disk : Ghosts D) (terms : Terms) (k : List Entry
   pub done : List Entry
   pub later : List Entry
   pub split : past.history ≡ later ++ done
+  pub behind : IsMomentBehind done past.moments at
   -- the worker's calls behind these, these, and those before them
   pub newer : List Call
   pub own : List Call
