@@ -1,5 +1,5 @@
 -- The runs of one server have sessions that follow one another.
-use Rattle.std.proofs.Common.{◌≡◌, ℕ, List, [], ◌∷◌, ◌++◌, refl, sym, ap, ◌∙◌, subst, append-nil, Option, Some, None}
+use Rattle.std.proofs.Common.{◌≡◌, ℕ, List, [], ◌∷◌, ◌++◌, refl, sym, ap, ◌∙◌, subst, append-nil, append_assoc, Option, Some, None}
 use mathlib.Core.Logic.{inl, inr}
 use Rattle.ocm_dav.specs.declared.configs.Config.{Config}
 use Rattle.ocm_disk.specs.Disk.{LeavesOnly}
@@ -9,7 +9,7 @@ use Rattle.ocm_entry.specs.declared.entries.Entry.{Entry}
 use Rattle.ocm_journal.specs.Openings.{Opens, StaysAsItOpens}
 use Rattle.ocm_rules.specs.History.{IsLegal}
 use Rattle.ocm_serve_options.specs.declared.plans.Plan.{Plan}
-use Rattle.ocm_serve_store.specs.Runs.{LeavesInRun, Ran}
+use Rattle.ocm_serve_store.specs.Runs.{KeepsSince, LeavesInRun, Ran}
 use Rattle.ocm_serve_store.specs.declared.followed.Origin.{Origin}
 use Rattle.ocm_server.specs.Objects.{Past}
 use Rattle.ocm_store.specs.Acts.{StandsLegally}
@@ -55,6 +55,8 @@ ran-was {D} disk plan area limit before after calls own IsEach ran =
           (subst (λ (t : Terms). LeavesNext t base history None (disk.seen (disk_of s.left.store))) ground (end.stands.reads tells));
       leaves = λ tells c may. subst (λ (t : Terms). LeavesNext t base history None c) ground (end.stands.leaves tells c (subst (λ d. disk.may_leave d c) s.back may));
       any_moment = λ tells. subst (λ (t : Terms). LeavesOnly disk.moment disk.left_since before after (LeavesInRun disk plan.host area before t base history)) same (ran.any_moment tells);
+      moments = s.service.moments;
+      since = λ tells. subst (λ (t : Terms). KeepsSince disk t base history s.service.moments after) same (ran.since tells);
     }
 
 -- ---- places of the calls
@@ -83,6 +85,22 @@ along-place host area size base (e ∷ before) next bytes opens (inl here) =
 along-place host area size base (e ∷ before) next bytes opens (inr earlier) =
     let rest = along-place host area size base before next bytes opens earlier in
     record { later = e ∷ rest.later; calls = rest.calls; flight = rest.flight; split = ap (λ l. e ∷ l) rest.split; comes = rest.comes }
+
+-- calls behind others, and what was in flight behind them, after which a list may follow
+pub record PlaceBehind (host : List ℕ) (base done later next : List Entry) : Type 0 where
+  pub newer : List Entry
+  pub more : List Entry
+  pub flight : Option Ask
+  pub split : later ≡ newer ++ more
+  pub comes : IsNext host base (more ++ done) flight next
+
+along-behind : (host : List ℕ) (area size : ℕ) (base done later next : List Entry) (bytes : List ℕ) → OpensTo host area next bytes → LeavesAlong (terms host size) base done later bytes → PlaceBehind host base done later next
+along-behind host area size base done [] next bytes opens left = record { newer = []; more = []; flight = None; split = refl; comes = left-next host area size base done next None bytes opens left }
+along-behind host area size base done (e ∷ before) next bytes opens (inl here) =
+    record { newer = e ∷ []; more = before; flight = Some e.ask; split = refl; comes = left-next host area size base (before ++ done) next (Some e.ask) bytes opens here }
+along-behind host area size base done (e ∷ before) next bytes opens (inr earlier) =
+    let rest = along-behind host area size base done before next bytes opens earlier in
+    record { newer = e ∷ rest.newer; more = rest.more; flight = rest.flight; split = ap (λ l. e ∷ l) rest.split; comes = rest.comes }
 
 -- nothing was done
 untouched : (host : List ℕ) (base history next : List Entry) → IsLegal host base → next ≡ base → Place host base history next
@@ -129,7 +147,7 @@ part disk host area r bytes next tells settled opens (inr (inl crash)) =
       lawful = r.was.session;
       comes = left-next host area r.was.size r.base r.history next None bytes opens (r.was.leaves tells bytes crash);
     }
-part {D} disk host area r bytes next tells settled opens (inr (inr within)) =
+part {D} disk host area r bytes next tells settled opens (inr (inr (inl within))) =
     let m = r.was.any_moment tells in
     by_place (by_case (m.each bytes within))
   where
@@ -138,13 +156,26 @@ part {D} disk host area r bytes next tells settled opens (inr (inr within)) =
     by_case (inr (inl stays)) = stays-place host area r.base r.history next (disk.seen r.before) bytes (r.was.opened tells) opens stays
     by_case (inr (inr along)) = along-place host area r.was.size r.base r.history next bytes opens along
 
-    by_place : Place host r.base r.history next → Part disk r bytes (inr (inr within)) next
+    by_place : Place host r.base r.history next → Part disk r bytes (inr (inr (inl within))) next
     by_place place = record {
       session = record { area = r.was.size; base = r.base; calls = place.calls; flight = place.flight };
       sized = refl;
       based = refl;
       has = (place.later, place.split);
       lawful = session-before host r.was.size r.base place.later place.calls (subst (λ h. IsSession host r.was.size r.base h) place.split r.was.session);
+      comes = place.comes;
+    }
+part disk host area r bytes next tells settled opens (inr (inr (inr since))) =
+    let kept = r.was.since tells since.done since.later since.at since.split since.behind in
+    let place = along-behind host area r.was.size r.base since.done since.later next bytes opens (kept.1 bytes since.left) in
+    let calls = place.more ++ since.done in
+    let split : r.history ≡ place.newer ++ calls = since.split ∙ ap (λ l. l ++ since.done) place.split ∙ append_assoc place.newer place.more since.done in
+    record {
+      session = record { area = r.was.size; base = r.base; calls = calls; flight = place.flight };
+      sized = refl;
+      based = refl;
+      has = (place.more, place.newer, refl, split);
+      lawful = session-before host r.was.size r.base place.newer calls (subst (λ h. IsSession host r.was.size r.base h) split r.was.session);
       comes = place.comes;
     }
 

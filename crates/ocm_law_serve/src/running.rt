@@ -23,7 +23,8 @@ use std::thread::Threads;
 
 /// The runs of one server, each from a disk that the one before left, at its end or by a crash at any moment
 /// of it, have one legal history that outlives every crash. Each run that came to its end has all its calls
-/// in it, and one that was killed a beginning of them.
+/// in it, and one that was killed a beginning of them: with all that were done by the moment since which a
+/// crash left its bytes, where that is told.
 pub fn runs_of_one_server_keep_what_is_promised<D: Disk>()
     ensures { RunsKeep ⟦<D as Disk>⟧ }
 {}
