@@ -1,11 +1,10 @@
 -- Pages that were written when their calls were on the disk.
 use Rattle.std.proofs.Common.{◌≡◌, ◌∙◌, ℕ, ◌<◌, Bool, List, [], ◌∷◌, ◌++◌, length, Option, Some, None, Result, Ok, Err, refl, sym, ap, subst, arith}
-use Rattle.rand_chacha.specs.ChaCha.{ChaCha}
 use Rattle.ocm_dav.specs.declared.configs.Config.{Config}
 use Rattle.ocm_dav_pages.specs.declared.shapes.Page.{Page}
 use Rattle.ocm_disk.specs.declared.disk.Disk.{Ghosts}
 use Rattle.ocm_entry.specs.declared.entries.Entry.{Entry}
-use Rattle.ocm_law_serve.specs.OnDisk.{AnswersAreOnDisk, EachPage, IsOnDisk, OnDisk}
+use Rattle.ocm_law_serve.specs.OnDisk.{AnswersAreOnDisk, EachPage, IsNewest, IsOnDisk, OnDisk}
 use Rattle.ocm_serve_store.specs.Runs.{KeepsSince}
 use Rattle.ocm_serve_store.specs.declared.followed.Origin.{Origin}
 use Rattle.ocm_server.specs.Objects.{Knows, Past, mine_of}
@@ -21,7 +20,7 @@ use Rattle.ocm_server_rounds.specs.declared.pumped.Pumped.{Pumped}
 use Rattle.ocm_store.specs.Courses.{IsMomentBehind}
 use Rattle.ocm_store.specs.declared.terms.Terms.{Terms}
 use Rattle.ocm_turn.specs.Calls.{InOrder, IsOlderPart, StandIn, entries}
-use Rattle.ocm_turn.specs.Moves.{Moved}
+use Rattle.ocm_turn.specs.Moves.{Moved, SeesNewest}
 use Rattle.ocm_turn.specs.Passes.{Known}
 use Rattle.ocm_turn.specs.declared.view.Call.{Call}
 use Rattle.ocm_turn.proofs.CallLemmas.{inside, older_through}
@@ -30,6 +29,11 @@ use Rattle.ocm_turn.proofs.CallLemmas.{inside, older_through}
 something-seen : (seen : List Entry) (own older : List Call) (e : Entry) (calls : List Entry) → entries own ≡ e ∷ calls → StandIn seen (own ++ older) → 0 < length seen
 something-seen seen [] older e calls is stand = absurd cc
 something-seen seen (c ∷ own) older e calls is stand = let n = inside seen c.place c.entry stand.0 in omega (arith, n)
+
+-- the newest of a pass's calls is the newest that it has seen
+is-newest : (old : List Entry) (own : List Call) (new : List Entry) → SeesNewest old own new → IsNewest own new
+is-newest old [] new sees = tt
+is-newest old (c ∷ own) new (before, is, place, part) = (before, is, place)
 
 -- ---- what is known of each page of a talk, in other words
 
@@ -68,7 +72,7 @@ module _ {T : Type 0} (past : Past) (mine : List Call) where
 -- ---- each page
 
 module _ {D T : Type 0} (disk : Ghosts D) (terms : Terms) (k : List Entry) (past : Past) (after : D) (mine : List Call) (keeps : KeepsSince disk terms k past.history past.moments after) where
-  kept-on-disk : (first final : Known T) → Follows past mine (Some final) → (calls : List Entry) (moments : List ℕ) → NotedBy first final calls moments → IsOnDisk disk terms k past after mine calls moments
+  kept-on-disk : (first final : Known T) → Follows past mine (Some final) → (calls : List Entry) (moments : List ℕ) → NotedBy first final calls moments → IsOnDisk disk terms k past after mine first.mine calls moments
   kept-on-disk first final follows [] moments kept = tt
   kept-on-disk first final follows (e ∷ calls) moments kept = by_moments kept.pass.moments refl
     where
@@ -81,7 +85,7 @@ module _ {D T : Type 0} (disk : Ghosts D) (terms : Terms) (k : List Entry) (past
       here : Follows past mine (Some kept.pass)
       here = moved-follows past mine kept.pass final kept.later kept.makes follows
 
-      by_moments : (known : List ℕ) → kept.pass.moments ≡ known → OnDisk disk terms k past after mine (e ∷ calls) moments
+      by_moments : (known : List ℕ) → kept.pass.moments ≡ known → OnDisk disk terms k past after mine first.mine (e ∷ calls) moments
       by_moments [] is =
           let many = something-seen kept.pass.seen own first.mine e calls kept.made.mine.2 stand in
           let few : 0 ≡ length kept.pass.seen = sym (ap length is) ∙ kept.sound.paired in
@@ -91,16 +95,16 @@ module _ {D T : Type 0} (disk : Ghosts D) (terms : Terms) (k : List Entry) (past
           (here.0.moments.0, earlier, here.0.moments.1 ∙ ap (λ (m : List ℕ). here.0.moments.0 ++ m) is, sym (ap length is) ∙ kept.sound.paired) in
           record {
             at = at;
-            noted_is = kept.newest ∙ ap newest_of is;
+            noted_is = kept.noted_is ∙ ap newest_of is;
             done = kept.pass.seen;
             later = here.0.history.0;
             split = here.0.history.1;
             behind = behind;
             newer = here.1.0;
             own = own;
-            older = first.mine;
             part = here.1.1 ∙ ap (λ (m : List Call). here.1.0 ++ m) kept.made.mine.1;
             own_are = kept.made.mine.2;
+            newest = is-newest first.seen own kept.pass.seen kept.made.newest;
             stand = stand;
             order = subst (λ (m : List Call). InOrder m) kept.made.mine.1 kept.sound.order;
             since = keeps kept.pass.seen here.0.history.0 at here.0.history.1 behind;
@@ -113,7 +117,7 @@ module _ {D T : Type 0} (disk : Ghosts D) (terms : Terms) (k : List Entry) (past
       let served = visited.middle in
       let behind = behind-follows past mine limit delivers v.pumped (hold served.pass served.exchanges) (hold new.pass new.exchanges) visited.behind follows in
       let ahead = moved-follows past mine middle.pass served.pass visited.talked.deeds.calls visited.talked.does.calls behind in (
-        each-then (NotedBy middle.pass served.pass) (IsOnDisk disk terms k past after mine) (kept-on-disk middle.pass served.pass behind) [] visited.talked.talk visited.talked.deeds.noted visited.talked.at,
+        each-then (NotedBy middle.pass served.pass) (IsOnDisk disk terms k past after mine middle.pass.mine) (kept-on-disk middle.pass served.pass behind) [] visited.talked.talk visited.talked.deeds.noted visited.talked.at,
         pages-on-disk sides config limit delivers before old middle earlier ahead,
       )
 

@@ -1,5 +1,5 @@
 -- Answers that are on the disk by the time at which they are written. Histories stand newest first.
-use Rattle.std.specs.Prelude.{◌≡◌, ℕ, Bool, List, [], ◌∷◌, ◌++◌, ⊤}
+use Rattle.std.specs.Prelude.{◌≡◌, ℕ, Bool, List, [], ◌∷◌, ◌++◌, length, ⊤}
 use Rattle.rand_chacha.specs.ChaCha.{ChaCha}
 use Rattle.ocm_dav.specs.declared.configs.Config.{Config}
 use Rattle.ocm_disk.specs.declared.disk.Disk.{Ghosts}
@@ -16,37 +16,44 @@ use Rattle.ocm_turn.specs.Calls.{InOrder, StandIn, entries}
 use Rattle.ocm_turn.specs.Passes.{Gate, Known}
 use Rattle.ocm_turn.specs.declared.view.Call.{Call}
 
--- With a page one moment of the disk was noted: that behind the newest of the calls `done`, with which the one history begins. In them stand these calls of
--- a worker in their order, behind all that the worker had called before. By the end of the run that moment has been, and since then a crash leaves what may
--- follow `done`, or a later call, of the disk that came back.
-pub record OnDisk {D : Type 0} (disk : Ghosts D) (terms : Terms) (k : List Entry) (past : Past) (after : D) (mine : List Call) (calls : List Entry) (moments : List ℕ) : Type 0 where
+-- the newest of these calls of a worker is the newest of all that were done, at its place
+abbrev pub IsNewest : List Call → List Entry → Type 0
+IsNewest [] done = ⊤
+IsNewest (newest ∷ own) done = (before : List Entry) × (done ≡ newest.entry ∷ before) × (newest.place ≡ length before)
+
+-- With a page one moment of the disk was noted: that behind the newest of the calls `done`, with which the one history begins.
+-- That is the newest of the calls that the page's connection had made by then, which are these. They stand in `done` in their
+-- order, behind all that the worker had called before the connection, which is `older`. By the end of the run that moment has
+-- been, and since then a crash leaves what may follow `done`, or a later call, of the disk that came back.
+pub record OnDisk {D : Type 0} (disk : Ghosts D) (terms : Terms) (k : List Entry) (past : Past) (after : D) (mine older : List Call) (calls : List Entry) (moments : List ℕ) : Type 0 where
   pub at : ℕ
   pub noted_is : moments ≡ at ∷ []
   pub done : List Entry
   pub later : List Entry
   pub split : past.history ≡ later ++ done
   pub behind : IsMomentBehind done past.moments at
-  -- the worker's calls behind these, these, and those before them
+  -- the worker's calls behind these, and these
   pub newer : List Call
   pub own : List Call
-  pub older : List Call
   pub part : mine ≡ newer ++ (own ++ older)
   pub own_are : entries own ≡ calls
+  pub newest : IsNewest own done
   pub stand : StandIn done (own ++ older)
   pub order : InOrder (own ++ older)
   pub since : LeavesSince disk after at (LeavesAlong terms k done later)
 
 -- where there are calls
-abbrev pub IsOnDisk : {D : Type 0} (disk : Ghosts D) → Terms → List Entry → Past → D → List Call → List Entry → List ℕ → Type 0
-IsOnDisk disk terms k past after mine [] moments = ⊤
-IsOnDisk disk terms k past after mine (e ∷ calls) moments = OnDisk disk terms k past after mine (e ∷ calls) moments
+abbrev pub IsOnDisk : {D : Type 0} (disk : Ghosts D) → Terms → List Entry → Past → D → List Call → List Call → List Entry → List ℕ → Type 0
+IsOnDisk disk terms k past after mine older [] moments = ⊤
+IsOnDisk disk terms k past after mine older (e ∷ calls) moments = OnDisk disk terms k past after mine older (e ∷ calls) moments
 
--- this is known of each page of these visits, by the calls of its connection up to it and by the moments that were noted with it
-abbrev pub EachPage : {C T : Type 0} (sides : C → Sides) (config : Config) (limit : ℕ) (delivers : Bool) → (List Entry → List ℕ → Type 0)
+-- This is known of each page of these visits, by the calls that the worker had made before its connection, by those of the
+-- connection up to the page, and by the moments that were noted with it.
+abbrev pub EachPage : {C T : Type 0} (sides : C → Sides) (config : Config) (limit : ℕ) (delivers : Bool) → (List Call → List Entry → List ℕ → Type 0)
     → (visits : List (Visit C)) (old new : Desk T) → Visits sides config limit delivers visits old new → Type 0
 EachPage sides config limit delivers K [] old new visits = ⊤
 EachPage sides config limit delivers K (v ∷ before) old new (middle, earlier, visited) =
-    EachAt K [] visited.talked.talk visited.talked.deeds.noted × EachPage sides config limit delivers K before old middle earlier
+    EachAt (K middle.pass.mine) [] visited.talked.talk visited.talked.deeds.noted × EachPage sides config limit delivers K before old middle earlier
 
 -- Each page of a worker that answers calls was noted with a moment by which these calls were on the disk, from which no crash takes them since. It is
 -- said of the connections that the worker's door tells, where they note moments.

@@ -1,8 +1,8 @@
 //! A server that runs, and runs again.
-ghost use Rattle.std.specs.Prelude.{◌≡◌, ◌<◌, ◌^◌, [], ℕ, length, slice_index_or, None};
+ghost use Rattle.std.specs.Prelude.{◌<◌, ◌^◌, [], ℕ, length, None};
 ghost use Rattle.ocm_limits.specs.Limits.{served_disk_bytes};
 ghost use Rattle.ocm_journal.specs.Openings.{new_area};
-ghost use Rattle.ocm_server.specs.Objects.{Shift, draw_at};
+ghost use Rattle.ocm_server.specs.Objects.{EachShift};
 ghost use Rattle.ocm_server.specs.Visits.{work};
 ghost use Rattle.ocm_serve_store.specs.Runs.{HasServed, Ran};
 ghost use Rattle.ocm_law_openings.specs.Keeping.{Keeps};
@@ -29,17 +29,17 @@ pub fn runs_of_one_server_keep_what_is_promised<D: Disk>()
     ensures { RunsKeep ⟦<D as Disk>⟧ }
 {}
 
-/// With each page of a connection that notes moments one was noted by which all calls that it answers were on the disk, where since
-/// the moment behind each call of the run a crash leaves what may follow that call, or a later one. It is said of a run that comes
-/// back, and of the connections that a worker's door tells.
+/// Each page that answers calls, of a connection that notes moments, was noted with the one behind the newest of these calls. From
+/// then on a crash leaves what may follow them, or later calls, where since the moment behind each call of the run it leaves what
+/// may follow that call, or a later one. It is said of a run that comes back, and of the connections that a worker's door tells.
 pub fn an_answer_is_on_the_disk<D: Disk, C: Conn>()
     ensures { AnswersAreOnDisk ⟦<D as Disk>⟧ C.sides }
 {}
 
 /// Serves as `serve` does. The calls of all workers stand in one legal history, in which requests for files
-/// are served exactly where every link grants them, and repeats act once. Where a door tells its connections and a
-/// connection notes moments, it has with each page one by which all calls that the page answers were on the disk: since then
-/// a crash leaves what may follow them, or later calls.
+/// are served exactly where every link grants them, and repeats act once. Where the disk tells its bytes, a door its
+/// connections, and these note moments, each page that answers calls has one: that behind the newest of these. Since then a
+/// crash leaves what may follow them, or later calls.
 pub fn serve_keeps_what_is_promised<
     D: Disk + Send,
     L: Door + Send,
@@ -58,12 +58,8 @@ where
     L::Conn: Send,
     requires some { 0 < length workers.old }
     ensures kept { (calls own : ℕ) → HasServed result.0 calls own → (ran : Ran ⟦<D as Disk>⟧ plan.now (new_area served_disk_bytes) (2 ^ 63) disk result.1 calls own
-        (λ config gate first past all. (length all ≡ length workers.old) × ((i : ℕ) (d : _) → i < length workers.old →
-        let a = slice_index_or workers.old i d in let b = slice_index_or workers.new i d in
-        Shift L.Conn.sides config gate first (draw_at draw_key i)
-        (work (L.told a.door) (L.faults a.door) (N.exchanges a.dial) (N.faults a.dial) (N.delivers a.dial) a.draw (K.given a.clock) a.pass a.end)
-        (work (L.told b.door) (L.faults b.door) (N.exchanges b.dial) (N.faults b.dial) (N.delivers b.dial) b.draw (K.given b.clock) b.pass b.end)
-        (slice_index_or all i []) past)))
+        (λ config gate first past all. EachShift L.Conn.sides config draw_key workers.old workers.new
+        (λ w. work (L.told w.door) (L.faults w.door) (N.exchanges w.dial) (N.faults w.dial) (N.delivers w.dial) w.draw (K.given w.clock) w.pass w.end) gate first past all))
         × (was : WasRun ⟦<D as Disk>⟧ plan.now.host (new_area served_disk_bytes) disk result.1 ran.served.first.base ran.served.service.history)
         × Keeps plan.now.host (record { area = was.size; base = ran.served.first.base; calls = ran.served.service.history; flight = None }) []
         × (D.tells → (i : ℕ) (d : _) (below : i < length workers.old) →

@@ -1,7 +1,6 @@
 -- What is promised of the log of a server that ran. Histories stand newest first, and lines oldest first.
 use Rattle.std.specs.Prelude.{◌≡◌, ℕ, List, [], ◌∷◌, ◌++◌, take, ⊤, Bool, Option, Ok, IfSome, IsTrue}
 use Rattle.std.specs.List.{AllByRecursion}
-use Rattle.ocm_dav.specs.declared.configs.Config.{Config}
 use Rattle.ocm_disk.specs.declared.disk.Disk.{Ghosts}
 use Rattle.ocm_entry.specs.declared.entries.Entry.{Entry}
 use Rattle.ocm_access_log.specs.Lines.{log_of}
@@ -11,12 +10,9 @@ use Rattle.ocm_law_traces.specs.TrueLogs.{IsTrueLog}
 use Rattle.ocm_serve_log.specs.Logs.{IsFront, IsLogOf, lines_since}
 use Rattle.ocm_serve_options.specs.declared.plans.Plan.{Plan}
 use Rattle.ocm_serve_store.specs.Runs.{Ran}
-use Rattle.ocm_serve_store.specs.declared.followed.Origin.{Origin}
 use Rattle.ocm_store.specs.Courses.{LeavesAlong}
 use Rattle.ocm_store.specs.Stores.{terms_of}
 use Rattle.ocm_store.specs.declared.terms.Terms.{Terms}
-use Rattle.ocm_turn.specs.Passes.{Gate, Known}
-use Rattle.ocm_turn.specs.declared.view.Call.{Call}
 
 -- bytes that end with a line feed, or none
 abbrev pub AreWholeLines : List ℕ → Type 0

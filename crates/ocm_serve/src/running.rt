@@ -1,10 +1,10 @@
 //! A server run by a plan, with what an administrator is told.
-ghost use Rattle.std.specs.Prelude.{◌≡◌, ◌≤◌, ◌<◌, ◌^◌, ℕ, [], length, slice_index_or, vec_len};
+ghost use Rattle.std.specs.Prelude.{◌≡◌, ◌≤◌, ◌<◌, ◌^◌, vec_len};
 ghost use Rattle.ocm_journal.specs.Openings.{new_area};
 ghost use Rattle.ocm_limits.specs.Limits.{served_disk_bytes};
 ghost use Rattle.ocm_serve_store.specs.Runs.{RunsTo};
 ghost use Rattle.ocm_serve_system.specs.Statuses.{IsStatus};
-ghost use Rattle.ocm_server.specs.Objects.{Shift, draw_at};
+ghost use Rattle.ocm_server.specs.Objects.{EachShift};
 ghost use Rattle.ocm_server.specs.Statuses.{status_of};
 ghost use Rattle.ocm_server.specs.Visits.{work};
 ghost use Rattle.ocm_server.specs.declared.served.Served.{Served};
@@ -80,12 +80,8 @@ where
     // The status is that of what `serve` came to, with all that is known of it.
     ensures runs { (came : Served) × (result ≡ status_of came)
         × RunsTo ⟦<D as Disk>⟧ plan.now (new_area served_disk_bytes) (2 ^ 63)
-        (λ old new config gate first past all. (length all ≡ length old) × ((i : ℕ) (d : _) → i < length old →
-        let a = slice_index_or old i d in let b = slice_index_or new i d in
-        Shift L.Conn.sides config gate first (draw_at draw_key i)
-        (work (L.told a.door) (L.faults a.door) (N.exchanges a.dial) (N.faults a.dial) (N.delivers a.dial) a.draw (K.given a.clock) a.pass a.end)
-        (work (L.told b.door) (L.faults b.door) (N.exchanges b.dial) (N.faults b.dial) (N.delivers b.dial) b.draw (K.given b.clock) b.pass b.end)
-        (slice_index_or all i []) past))
+        (λ old new config gate first past all. EachShift L.Conn.sides config draw_key old new
+        (λ w. work (L.told w.door) (L.faults w.door) (N.exchanges w.dial) (N.faults w.dial) (N.delivers w.dial) w.draw (K.given w.clock) w.pass w.end) gate first past all)
         (λ w. w.end) disk workers.items came }
 {
     let (served, disk) = serve(rt, alloc, plan, &mut workers, disk, draw_key);

@@ -1,6 +1,5 @@
 -- A store with a log that was served.
-use Rattle.std.proofs.Common.{◌≡◌, ◌⊎◌, ◌≤◌, ◌∙◌, ℕ, List, [], ◌∷◌, ◌++◌, arith, Bool, true, false, Option, Result, Ok, Err, Some, None, if◌then◌else◌, refl, sym, ap, subst}
-use Rattle.std.specs.Prelude.{IfOk, IfSome}
+use Rattle.std.proofs.Common.{◌≡◌, ◌⊎◌, ◌≤◌, ◌∙◌, ℕ, List, [], ◌∷◌, ◌++◌, arith, Bool, true, false, Option, Some, None, if◌then◌else◌, refl, sym, ap, subst}
 use Rattle.std.specs.List.{AllByRecursion}
 use Rattle.std.specs.Option.{option_map_or}
 use Rattle.ocm_access_log.specs.Truth.{status_of}
@@ -28,7 +27,7 @@ use Rattle.ocm_disk.specs.Disk.{LeavesOnly}
 use Rattle.ocm_journal.specs.Openings.{StaysAsItOpens}
 use Rattle.ocm_serve_options.specs.declared.plans.Plan.{Plan}
 use Rattle.ocm_serve_store.proofs.Told.{run-keeps, run-leaves, run-since}
-use Rattle.ocm_serve_store.specs.Runs.{IsOpenedTo, IsServed, Ran, config_of}
+use Rattle.ocm_serve_store.specs.Runs.{IsOpenedTo, WasServed, Ran, config_of}
 use Rattle.ocm_store.specs.Opening.{IsOfArea}
 use Rattle.ocm_serve_store.specs.declared.followed.Followed.{Followed}
 use Rattle.ocm_serve_store.specs.declared.followed.Origin.{Origin}
@@ -75,14 +74,14 @@ module _ {D T K : Type 0} (disk : Ghosts D) (followed : T → Followed D disk) (
       → (c ≡ calls) × (o ≡ own) → Begins limit (origin_of (followed begun)) gate first → IsBase first.base × Stood begun first.base [] × IsLegalSince disk first.terms first.base []
       → Serviced gate first left calls own (IsEach gate first) → after ≡ disk_of (followed left).store
       → ((lines : List LogLine) → Holds taken faults (log left) lines → IsLog bytes count lost short lines)
-      → (run : IsServed disk limit IsBase store after c o IsEach) × IsLogOf bytes count lost short (host_of store) run.first.base run.service.history
+      → (run : WasServed disk limit IsBase store after c o IsEach) × IsLogOf bytes count lost short (host_of store) run.first.base run.service.history
   logged_run limit IsBase store begun left after c o calls own IsEach gate first bytes count lost short is born same begins base service back finish =
       let host : host_of (followed left).store ≡ host_of store =
       ap (λ (t : Origin D disk). t.terms.host) (service.same_terms ∙ begins.terms_are) ∙ ap (λ (s : Store D disk). host_of s) is in
       let lines : IsLogOf bytes count lost short (host_of store) first.base service.history =
       subst (λ (h : List ℕ). IsLogOf bytes count lost short h first.base service.history) host (finish _ service.stands_for.1, service.stands_for.2) in
       let birth : (followed left).born.value ≡ store = ap (λ (t : Origin D disk). t.born.value) (service.same_terms ∙ begins.terms_are) ∙ born in
-      let run : IsServed disk limit IsBase store after calls own IsEach = record {
+      let run : WasServed disk limit IsBase store after calls own IsEach = record {
         gate = gate;
         first = first;
         begun = followed begun;
@@ -96,7 +95,7 @@ module _ {D T K : Type 0} (disk : Ghosts D) (followed : T → Followed D disk) (
         course_at = subst (λ (s : Store D disk). CourseAt disk s service.history service.moments (followed left).store) birth service.came_by;
         back = back;
       } in
-      subst (λ (z : ℕ × ℕ). (run : IsServed disk limit IsBase store after z.0 z.1 IsEach) × IsLogOf bytes count lost short (host_of store) run.first.base run.service.history)
+      subst (λ (z : ℕ × ℕ). (run : WasServed disk limit IsBase store after z.0 z.1 IsEach) × IsLogOf bytes count lost short (host_of store) run.first.base run.service.history)
       (λ i. (sym same.0 i, sym same.1 i)) (run, lines)
 
 -- a server that ran with a log, by what is told of its load and of the store that was served
@@ -105,7 +104,7 @@ pub logged_ran : {D : Type 0} (disk : Ghosts D) (only_now : (d : D) (c : List �
     → config ≡ config_of plan → host_of store ≡ plan.host → (disk.tells → IsOfArea plan.host area (area_of store) (disk.seen before))
     → (disk.tells → LeavesOnly disk.moment disk.left_since before (disk_of store) (λ x. disk.may_leave before x ⊎ StaysAsItOpens plan.host area (disk.seen before) x))
     → ((k : List Entry) → IsBase k → IsOpenedTo disk plan.host area before k)
-    → (s : IsServed disk limit IsBase store after calls own (IsEach config)) × IsLogOf bytes count lost short (host_of store) s.first.base s.service.history
+    → (s : WasServed disk limit IsBase store after calls own (IsEach config)) × IsLogOf bytes count lost short (host_of store) s.first.base s.service.history
     → (run : Ran disk plan area limit before after calls own IsEach) × IsLogOf bytes count lost short plan.host run.served.first.base run.served.service.history
 logged_ran disk only_now plan area limit IsBase before after calls own IsEach config store bytes count lost short config_is host_is area_is loaded opens (s, log) = (
   record {

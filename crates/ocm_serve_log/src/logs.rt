@@ -1,5 +1,5 @@
 //! A log: lines that are gathered, and written together.
-ghost use Rattle.std.specs.Prelude.{◌≡◌, ◌+◌, ◌<◌, ◌≤◌, ◌∷◌, ◌++◌, ℕ, List, [], length, decimal, true, false, None, IfOk, IfSome, IsTrue};
+ghost use Rattle.std.specs.Prelude.{◌≡◌, ◌+◌, ◌<◌, ◌≤◌, ◌∷◌, ◌++◌, ℕ, List, [], length, decimal, true, false, None, IfSome, IsTrue};
 ghost use Rattle.ocm_access_log.specs.Written.{IsLoggable, written_ask};
 ghost use Rattle.ocm_access_log.specs.declared.lines.LogLine.{LogLine};
 ghost use Rattle.ocm_entry.specs.Proper.{is_proper};

@@ -3,7 +3,7 @@ ghost use Rattle.std.specs.Prelude.{◌≡◌, ◌⊎◌, ◌<◌, ◌^◌, ℕ,
 ghost use Rattle.ocm_limits.specs.Limits.{served_disk_bytes};
 ghost use Rattle.ocm_disk.specs.Disk.{LeavesOnly};
 ghost use Rattle.ocm_journal.specs.Openings.{StaysAsItOpens, new_area};
-ghost use Rattle.ocm_server.specs.Objects.{Shift, draw_at};
+ghost use Rattle.ocm_server.specs.Objects.{EachShift};
 ghost use Rattle.ocm_server.specs.Visits.{work};
 ghost use Rattle.ocm_server.specs.declared.workers.Rounds.TheVariants as rounds;
 ghost use Rattle.ocm_store.specs.Opening.{loading};
@@ -11,7 +11,7 @@ ghost use Rattle.ocm_store.specs.Stores.{IsLegalUnder, Stands, disk_of, host_of,
 ghost use Rattle.ocm_entry.specs.declared.entries.Entry.{Entry};
 ghost use Rattle.ocm_serve_log.specs.Logs.{Holds, IsLog, IsLogOf};
 ghost use Rattle.ocm_access_log.specs.declared.lines.LogLine.{LogLine};
-ghost use Rattle.ocm_serve_store.specs.Runs.{HasServed, IsCounted, IsDiskFault, IsLoaded, IsSaid, IsServed, IsUnserved, Ran};
+ghost use Rattle.ocm_serve_store.specs.Runs.{HasServed, IsCounted, IsDiskFault, IsLoaded, IsSaid, WasServed, IsUnserved, Ran};
 
 use crate::logged::LoggedStore;
 use crate::logs::Log;
@@ -22,7 +22,7 @@ use ocm_disk::Disk;
 use ocm_limits::SERVED_DISK_BYTES;
 use ocm_pump::Dial;
 use ocm_serve_options::Plan;
-use ocm_serve_store::{Followed, ended, names_of, refused};
+use ocm_serve_store::{Followed, MOST_CALLS, ended, names_of, refused};
 use ocm_server::{Door, Served, Worker, serve_object};
 use ocm_store::Store;
 use ocm_turn::Founded;
@@ -31,9 +31,6 @@ use std::marker::Brand;
 use std::snapshot::Snapshot;
 use std::sync::Wait;
 use std::thread::Threads;
-
-/// How many calls the store answers at most: 2^63.
-const CALLS: u64 = 9_223_372_036_854_775_808;
 
 /// What is left of a server that ran with a log.
 #[derive(Drop)]
@@ -79,12 +76,8 @@ where
     // All that `serve` says of a run, and that the sink has the first lines of the reads in the one history, in their order: all of them but so many
     // as were left out, which is none where the sink has had no fault and there was memory for each line, and some where there was none for one.
     ensures served { (calls own : ℕ) → HasServed result.served calls own → (run : Ran ⟦<D as Disk>⟧ plan.now (new_area served_disk_bytes) (2 ^ 63) disk result.disk calls own
-        (λ config gate first past all. (length all ≡ length workers.old) × ((i : ℕ) (d : _) → i < length workers.old →
-        let a = slice_index_or workers.old i d in let b = slice_index_or workers.new i d in
-        Shift L.Conn.sides config gate first (draw_at draw_key i)
-        (work (L.told a.door) (L.faults a.door) (N.exchanges a.dial) (N.faults a.dial) (N.delivers a.dial) a.draw (C.given a.clock) a.pass a.end)
-        (work (L.told b.door) (L.faults b.door) (N.exchanges b.dial) (N.faults b.dial) (N.delivers b.dial) b.draw (C.given b.clock) b.pass b.end)
-        (slice_index_or all i []) past)))
+        (λ config gate first past all. EachShift L.Conn.sides config draw_key workers.old workers.new
+        (λ w. work (L.told w.door) (L.faults w.door) (N.exchanges w.dial) (N.faults w.dial) (N.delivers w.dial) w.draw (C.given w.clock) w.pass w.end) gate first past all))
         × IsLogOf (K.taken result.sink) (K.faults result.sink) result.left_out result.out_of_memory plan.now.host run.served.first.base run.served.service.history }
     ensures ended { (calls own : ℕ) → result.served ≡ Served.Ended calls own → (i : ℕ) (d : _) → i < length workers.new → (slice_index_or workers.new i d).end ≡ rounds.Ended }
     ensures fault { (calls own : ℕ) → result.served ≡ Served.DoorFault calls own → (i : ℕ) × (i < length workers.new) × ((d : _) → (slice_index_or workers.new i d).end ≡ rounds.DoorFault) }
@@ -145,13 +138,9 @@ where
     requires some { 0 < length workers.old }
     requires fresh { IfSome (K.taken sink) (λ held. held ≡ []) }
     requires store { (k : List Entry) × J.known k × Stands ⟦<D as Disk>⟧ store k [] × IsLegalUnder (terms_of store) k [] }
-    ensures served { (calls own : ℕ) → HasServed result.served calls own → (run : IsServed ⟦<D as Disk>⟧ (2 ^ 63) J.known store result.disk calls own
-        (λ gate first past all. (length all ≡ length workers.old) × ((i : ℕ) (d : _) → i < length workers.old →
-        let a = slice_index_or workers.old i d in let b = slice_index_or workers.new i d in
-        Shift L.Conn.sides config.now gate first (draw_at draw_key i)
-        (work (L.told a.door) (L.faults a.door) (N.exchanges a.dial) (N.faults a.dial) (N.delivers a.dial) a.draw (C.given a.clock) a.pass a.end)
-        (work (L.told b.door) (L.faults b.door) (N.exchanges b.dial) (N.faults b.dial) (N.delivers b.dial) b.draw (C.given b.clock) b.pass b.end)
-        (slice_index_or all i []) past)))
+    ensures served { (calls own : ℕ) → HasServed result.served calls own → (run : WasServed ⟦<D as Disk>⟧ (2 ^ 63) J.known store result.disk calls own
+        (λ gate first past all. EachShift L.Conn.sides config.now draw_key workers.old workers.new
+        (λ w. work (L.told w.door) (L.faults w.door) (N.exchanges w.dial) (N.faults w.dial) (N.delivers w.dial) w.draw (C.given w.clock) w.pass w.end) gate first past all))
         × IsLogOf (K.taken result.sink) (K.faults result.sink) result.left_out result.out_of_memory (host_of store) run.first.base run.service.history }
     ensures ended { (calls own : ℕ) → result.served ≡ Served.Ended calls own → (i : ℕ) (d : _) → i < length workers.new → (slice_index_or workers.new i d).end ≡ rounds.Ended }
     ensures fault { (calls own : ℕ) → result.served ≡ Served.DoorFault calls own → (i : ℕ) × (i < length workers.new) × ((d : _) → (slice_index_or workers.new i d).end ≡ rounds.DoorFault) }
@@ -164,7 +153,7 @@ where
     let log = Log::new(alloc, sink);
     let logged = LoggedStore::new(followed, log);
     match serve_object::<J, LoggedStore<D, K>, L, N, C, R>(
-        rt, alloc, config, workers, logged, CALLS, draw_key,
+        rt, alloc, config, workers, logged, MOST_CALLS, draw_key,
     ) {
         Ok(done) => {
             let served = ended(workers, done.calls, done.own);

@@ -9,7 +9,7 @@ use Rattle.ocm_server.specs.Objects.{Begins, Past, Service}
 use Rattle.ocm_server.specs.declared.served.Served.{Served}
 use Rattle.ocm_server.specs.declared.served.Served.TheVariants.{Ended, DoorFault, DiskFault, NotJournal, OtherHost, NoMemory}
 use Rattle.ocm_serve_store.specs.Following.{CameSince, IsLegalSince, StandsSince, origin_of}
-use Rattle.ocm_serve_store.specs.Runs.{HasServed, IsCounted, IsDiskFault, IsLoaded, IsOpenedTo, IsSaid, IsServed, KeepsDone, KeepsSince, LeavesInRun, as_served}
+use Rattle.ocm_serve_store.specs.Runs.{HasServed, IsCounted, IsDiskFault, IsLoaded, IsOpenedTo, IsSaid, WasServed, KeepsDone, KeepsSince, LeavesInRun, as_served}
 use Rattle.ocm_serve_store.specs.declared.followed.Followed.{Followed}
 use Rattle.ocm_serve_store.specs.declared.followed.Origin.{Origin}
 use Rattle.ocm_store.specs.Courses.{Course, CourseAt, LeavesAlong, LeavesSince}
@@ -31,7 +31,7 @@ pub served : {D : Type 0} (disk : Ghosts D) (limit : ℕ) (IsBase : List Entry �
     → begun.store ≡ store → begun.born.value ≡ store
     → (c ≡ calls) × (o ≡ own) → Begins limit (origin_of begun) gate first → IsBase first.base × StandsSince disk begun first.base [] × IsLegalSince disk first.terms first.base []
     → Service (λ (f : Followed D disk). origin_of f) (StandsSince disk) (CameSince disk) (IsLegalSince disk) gate first left calls own (IsEach gate first) → after ≡ disk_of left.store
-    → IsServed disk limit IsBase store after c o IsEach
+    → WasServed disk limit IsBase store after c o IsEach
 served {D} disk limit IsBase store begun left after c o calls own IsEach gate first is born same begins base service back = record {
   gate = gate;
   first = first;
@@ -56,7 +56,7 @@ served {D} disk limit IsBase store begun left after c o calls own IsEach gate fi
 
 -- what a crash leaves at any moment of a run, by what it leaves of a load
 pub run-leaves : {D : Type 0} (disk : Ghosts D) (only_now : (d : D) (c : List ℕ) → disk.left_since d (disk.moment d) c → disk.may_leave d c) (host : List ℕ) (area limit : ℕ) (IsBase : List Entry → Type 0)
-    (store : Store D disk) (before after : D) (c o : ℕ) (IsEach : Gate → Known (Origin D disk) → Past → List (List Call) → Type 0) (s : IsServed disk limit IsBase store after c o IsEach) → disk.tells
+    (store : Store D disk) (before after : D) (c o : ℕ) (IsEach : Gate → Known (Origin D disk) → Past → List (List Call) → Type 0) (s : WasServed disk limit IsBase store after c o IsEach) → disk.tells
     → LeavesOnly disk.moment disk.left_since before (disk_of store) (λ x. disk.may_leave before x ⊎ StaysAsItOpens host area (disk.seen before) x)
     → LeavesOnly disk.moment disk.left_since before after (LeavesInRun disk host area before (terms_of store) s.first.base s.service.history)
 run-leaves {D} disk only_now host area limit IsBase store before after c o IsEach s tells loaded =
@@ -69,14 +69,14 @@ run-leaves {D} disk only_now host area limit IsBase store before after c o IsEac
 
 -- and what was answered is kept
 pub run-keeps : {D : Type 0} (disk : Ghosts D) (only_now : (d : D) (c : List ℕ) → disk.left_since d (disk.moment d) c → disk.may_leave d c) (limit : ℕ) (IsBase : List Entry → Type 0)
-    (store : Store D disk) (after : D) (c o : ℕ) (IsEach : Gate → Known (Origin D disk) → Past → List (List Call) → Type 0) (s : IsServed disk limit IsBase store after c o IsEach)
+    (store : Store D disk) (after : D) (c o : ℕ) (IsEach : Gate → Known (Origin D disk) → Past → List (List Call) → Type 0) (s : WasServed disk limit IsBase store after c o IsEach)
     (done later : List Entry) → s.service.history ≡ later ++ done → KeepsDone disk store s.first.base done later s.left.store
 run-keeps disk only_now limit IsBase store after c o IsEach s done later is =
     courses-keep disk only_now store s.left.store s.first.base done later (record { stands = s.stands; legal = s.lawful }) (subst (λ (h : List Entry). Course disk store h s.left.store) is s.course)
 
 -- since the moment behind each call
 pub run-since : {D : Type 0} (disk : Ghosts D) (only_now : (d : D) (c : List ℕ) → disk.left_since d (disk.moment d) c → disk.may_leave d c) (limit : ℕ) (IsBase : List Entry → Type 0)
-    (store : Store D disk) (after : D) (c o : ℕ) (IsEach : Gate → Known (Origin D disk) → Past → List (List Call) → Type 0) (s : IsServed disk limit IsBase store after c o IsEach)
+    (store : Store D disk) (after : D) (c o : ℕ) (IsEach : Gate → Known (Origin D disk) → Past → List (List Call) → Type 0) (s : WasServed disk limit IsBase store after c o IsEach)
     → disk.tells → KeepsSince disk (terms_of store) s.first.base s.service.history s.service.moments after
 run-since {D} disk only_now limit IsBase store after c o IsEach s tells = λ done later at is behind.
     subst (λ (d : D). LeavesSince disk d at (LeavesAlong (terms_of store) s.first.base done later)) (sym s.back)
@@ -143,7 +143,7 @@ opened_same {D} disk area host host2 before before2 k same same2 opens =
 
 -- what is known of a base by other words
 pub based : {D : Type 0} (disk : Ghosts D) (limit : ℕ) (IsBase IsBase2 : List Entry → Type 0) (store : Store D disk) (after : D) (c o : ℕ) (IsEach : Gate → Known (Origin D disk) → Past → List (List Call) → Type 0)
-    → ((k : List Entry) → IsBase k → IsBase2 k) → IsServed disk limit IsBase store after c o IsEach → IsServed disk limit IsBase2 store after c o IsEach
+    → ((k : List Entry) → IsBase k → IsBase2 k) → WasServed disk limit IsBase store after c o IsEach → WasServed disk limit IsBase2 store after c o IsEach
 based disk limit IsBase IsBase2 store after c o IsEach then s = record {
   gate = s.gate;
   first = s.first;

@@ -95,7 +95,7 @@ KeepsSince disk terms k h moments after = (done later : List Entry) (at : ℕ) �
 -- A store was served by so many calls, of which so many are those of its workers, and its disk came back. It stood for a base at first, of
 -- which something is known, and at the end for that base and one history in which the calls of all workers stand, and came to it by these
 -- calls; what is known of each worker is told apart.
-pub record IsServed {D : Type 0} (disk : Ghosts D) (limit : ℕ) (IsBase : List Entry → Type 0) (store : Store D disk) (after : D) (calls own : ℕ) (IsEach : Gate → Known (Origin D disk) → Past → List (List Call) → Type 0) : Type 0 where
+pub record WasServed {D : Type 0} (disk : Ghosts D) (limit : ℕ) (IsBase : List Entry → Type 0) (store : Store D disk) (after : D) (calls own : ℕ) (IsEach : Gate → Known (Origin D disk) → Past → List (List Call) → Type 0) : Type 0 where
   pub gate : Gate
   pub first : Known (Origin D disk)
   pub begun : Followed D disk
@@ -118,7 +118,7 @@ pub record Ran {D : Type 0} (disk : Ghosts D) (plan : Plan) (area limit : ℕ) (
   pub store : Store D disk
   pub host_is : host_of store ≡ plan.host
   pub area_is : disk.tells → IsOfArea plan.host area (area_of store) (disk.seen before)
-  pub served : IsServed disk limit (IsOpenedTo disk plan.host area before) store after calls own (IsEach config)
+  pub served : WasServed disk limit (IsOpenedTo disk plan.host area before) store after calls own (IsEach config)
   pub all_own : own ≡ calls
   -- a crash at any moment of the run
   pub any_moment : disk.tells → LeavesOnly disk.moment disk.left_since before after (LeavesInRun disk plan.host area before (terms_of store) served.first.base served.service.history)

@@ -6,4 +6,4 @@ mod following;
 mod serving;
 
 pub use followed::{Followed, Origin};
-pub use serving::{ended, names_of, refused, serve};
+pub use serving::{MOST_CALLS, ended, names_of, refused, serve};

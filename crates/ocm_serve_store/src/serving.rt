@@ -1,15 +1,15 @@
 //! A store, served from its disk to its disk.
-ghost use Rattle.std.specs.Prelude.{◌≡◌, ◌⊎◌, ◌<◌, ◌≤◌, ◌^◌, ℕ, [], List, length, slice_index_or, IfOk};
+ghost use Rattle.std.specs.Prelude.{◌≡◌, ◌⊎◌, ◌<◌, ◌^◌, ℕ, [], List, length, slice_index_or, IfOk};
 ghost use Rattle.ocm_limits.specs.Limits.{served_disk_bytes};
 ghost use Rattle.ocm_disk.specs.Disk.{LeavesOnly};
 ghost use Rattle.ocm_journal.specs.Openings.{StaysAsItOpens, new_area};
-ghost use Rattle.ocm_server.specs.Objects.{Shift, draw_at};
+ghost use Rattle.ocm_server.specs.Objects.{EachShift};
 ghost use Rattle.ocm_server.specs.Visits.{work};
 ghost use Rattle.ocm_server.specs.declared.workers.Rounds.TheVariants as rounds;
 ghost use Rattle.ocm_store.specs.Opening.{loading};
 ghost use Rattle.ocm_store.specs.Stores.{IsLegalUnder, Stands, disk_of, terms_of};
 ghost use Rattle.ocm_entry.specs.declared.entries.Entry.{Entry};
-ghost use Rattle.ocm_serve_store.specs.Runs.{HasServed, IsCounted, IsDiskFault, IsLoaded, IsSaid, IsServed, IsUnserved, Ran, as_served, config_of};
+ghost use Rattle.ocm_serve_store.specs.Runs.{HasServed, IsCounted, IsDiskFault, IsLoaded, IsSaid, WasServed, IsUnserved, Ran, as_served, config_of};
 
 use crate::followed::Followed;
 use ocm_base::{Clock, NoMemory};
@@ -29,7 +29,7 @@ use std::sync::Wait;
 use std::thread::Threads;
 
 /// How many calls the store answers at most: 2^63.
-const CALLS: u64 = 9_223_372_036_854_775_808;
+pub const MOST_CALLS: u64 = 9_223_372_036_854_775_808;
 
 /// Loads the store of the plan's host from a disk and serves it by the workers, each in a thread of its own, until every
 /// door came to its end or failed. The disk comes back. The worker at each place draws by the stream of that number under
@@ -56,15 +56,11 @@ where
     // The calls of each worker stand in one history, in the order in which it made them. The history is legal behind what the disk
     // opened to, and the disk that comes back is that of a store that stands for it and came to it by these calls. A crash at any moment
     // of the run leaves what may follow at some place of them, and loses nothing that was answered before. A connection that notes moments
-    // has with each page the moment of the disk behind the newest call that the worker knew of when it was written. Since that moment a crash
-    // leaves what may follow this call, or a later one.
+    // has with each page that of the disk behind the newest call that the connection had made up to it or, without one, behind the newest
+    // that the worker knew of before, if any. Since that moment a crash leaves what may follow this call, or a later one.
     ensures served { (calls own : ℕ) → HasServed result.0 calls own → Ran ⟦<D as Disk>⟧ plan.now (new_area served_disk_bytes) (2 ^ 63) disk result.1 calls own
-        (λ config gate first past all. (length all ≡ length workers.old) × ((i : ℕ) (d : _) → i < length workers.old →
-        let a = slice_index_or workers.old i d in let b = slice_index_or workers.new i d in
-        Shift L.Conn.sides config gate first (draw_at draw_key i)
-        (work (L.told a.door) (L.faults a.door) (N.exchanges a.dial) (N.faults a.dial) (N.delivers a.dial) a.draw (K.given a.clock) a.pass a.end)
-        (work (L.told b.door) (L.faults b.door) (N.exchanges b.dial) (N.faults b.dial) (N.delivers b.dial) b.draw (K.given b.clock) b.pass b.end)
-        (slice_index_or all i []) past)) }
+        (λ config gate first past all. EachShift L.Conn.sides config draw_key workers.old workers.new
+        (λ w. work (L.told w.door) (L.faults w.door) (N.exchanges w.dial) (N.faults w.dial) (N.delivers w.dial) w.draw (K.given w.clock) w.pass w.end) gate first past all) }
 
     // It ended where every door came to its end, and else the door of a worker failed.
     ensures ended { (calls own : ℕ) → result.0 ≡ Served.Ended calls own → (i : ℕ) (d : _) → i < length workers.new → (slice_index_or workers.new i d).end ≡ rounds.Ended }
@@ -137,13 +133,9 @@ where
     L::Conn: Send,
     requires some { 0 < length workers.old }
     requires store { (k : List Entry) × J.known k × Stands ⟦<D as Disk>⟧ store k [] × IsLegalUnder (terms_of store) k [] }
-    ensures served { (calls own : ℕ) → HasServed result.0 calls own → IsServed ⟦<D as Disk>⟧ (2 ^ 63) J.known store result.1 calls own
-        (λ gate first past all. (length all ≡ length workers.old) × ((i : ℕ) (d : _) → i < length workers.old →
-        let a = slice_index_or workers.old i d in let b = slice_index_or workers.new i d in
-        Shift L.Conn.sides config.now gate first (draw_at draw_key i)
-        (work (L.told a.door) (L.faults a.door) (N.exchanges a.dial) (N.faults a.dial) (N.delivers a.dial) a.draw (K.given a.clock) a.pass a.end)
-        (work (L.told b.door) (L.faults b.door) (N.exchanges b.dial) (N.faults b.dial) (N.delivers b.dial) b.draw (K.given b.clock) b.pass b.end)
-        (slice_index_or all i []) past)) }
+    ensures served { (calls own : ℕ) → HasServed result.0 calls own → WasServed ⟦<D as Disk>⟧ (2 ^ 63) J.known store result.1 calls own
+        (λ gate first past all. EachShift L.Conn.sides config.now draw_key workers.old workers.new
+        (λ w. work (L.told w.door) (L.faults w.door) (N.exchanges w.dial) (N.faults w.dial) (N.delivers w.dial) w.draw (K.given w.clock) w.pass w.end) gate first past all) }
     ensures ended { (calls own : ℕ) → result.0 ≡ Served.Ended calls own → (i : ℕ) (d : _) → i < length workers.new → (slice_index_or workers.new i d).end ≡ rounds.Ended }
     ensures fault { (calls own : ℕ) → result.0 ≡ Served.DoorFault calls own → (i : ℕ) × (i < length workers.new) × ((d : _) → (slice_index_or workers.new i d).end ≡ rounds.DoorFault) }
     ensures loaded { IsLoaded result.0 }
@@ -156,7 +148,7 @@ where
         config,
         workers,
         Followed::new(store),
-        CALLS,
+        MOST_CALLS,
         draw_key,
     ) {
         Ok(done) => {

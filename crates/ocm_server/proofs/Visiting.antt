@@ -6,7 +6,7 @@ use Rattle.ocm_entry.specs.declared.entries.Entry.{Entry}
 use Rattle.ocm_turn.specs.Moves.{Moved}
 use Rattle.ocm_turn.proofs.MoveLemmas.{moved_nothing, moved_then}
 use Rattle.ocm_server_connections.specs.Sides.{Sides}
-use Rattle.ocm_server.specs.Doors.{Doorway, given, came, over}
+use Rattle.ocm_server.specs.Doors.{Doorway, given, came_back, over}
 use Rattle.ocm_server_rounds.specs.declared.pumped.Pumped.{Pumped}
 use Rattle.ocm_server_rounds.specs.Rounds.{Hold, hold}
 use Rattle.ocm_server.specs.Visits.{Behind, Desk, Visit, Visits, visited, left, Comes, Serves}
@@ -24,7 +24,7 @@ same_told : {C : Type 0} (told : Option (Doorway C)) → told ≡ option_map (λ
 same_told (Some d) = refl
 same_told None = refl
 
-one_more : {C : Type 0} (told : Option (Doorway C)) (v : Visit C) (before : List (Visit C)) → option_map (came v.back v.ended) (option_map (given v.given) (option_map (λ d. left false (visited before d)) told)) ≡ option_map (λ d. left false (visited (v ∷ before) d)) told
+one_more : {C : Type 0} (told : Option (Doorway C)) (v : Visit C) (before : List (Visit C)) → option_map (came_back v.back v.ended) (option_map (given v.given) (option_map (λ d. left false (visited before d)) told)) ≡ option_map (λ d. left false (visited (v ∷ before) d)) told
 one_more (Some d) v before = refl
 one_more None v before = refl
 
@@ -46,7 +46,7 @@ module _ {C Terms : Type 0} (sides : C → Sides) (config : Config) (limit : ℕ
       let v : Visit C = record { given = conn; back = m.back; ended = m.ended; pumped = m.pumped } in
       record {
         visits = v ∷ s.visits;
-        door = m.came ∙ (ap (option_map (came m.back m.ended)) (g ∙ ap (option_map (given conn)) s.door) ∙ one_more t0 v s.visits);
+        door = m.came ∙ (ap (option_map (came_back m.back m.ended)) (g ∙ ap (option_map (given conn)) s.door) ∙ one_more t0 v s.visits);
         served = (b, s.served, m.visited);
       }
 

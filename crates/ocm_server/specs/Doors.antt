@@ -17,8 +17,8 @@ module _ {C : Type 0} where
   given conn d = record { given = conn ∷ d.given; back = d.back; overs = d.overs }
 
   -- a connection came back with its ending
-  abbrev pub came : C → Ended → Doorway C → Doorway C
-  came conn ended d = record { given = d.given; back = record { conn = conn; ended = ended } ∷ d.back; overs = d.overs }
+  abbrev pub came_back : C → Ended → Doorway C → Doorway C
+  came_back conn ended d = record { given = d.given; back = record { conn = conn; ended = ended } ∷ d.back; overs = d.overs }
 
   -- the door said that it is over
   abbrev pub over : Doorway C → Doorway C

@@ -1,5 +1,5 @@
 -- An object served by workers, from its first call to its last.
-use Rattle.std.specs.Prelude.{◌≡◌, ℕ, ◌+◌, ◌≤◌, List, [], ◌∷◌, length, Option, Some, None, ⊤}
+use Rattle.std.specs.Prelude.{◌≡◌, ℕ, ◌+◌, ◌<◌, ◌≤◌, List, [], ◌∷◌, length, slice_index_or, Option, Some, None, ⊤}
 use Rattle.std.specs.List.{AllByRecursion}
 use Rattle.rand_chacha.specs.ChaCha.{ChaCha, key_of}
 use Rattle.ocm_entry.specs.declared.entries.Entry.{Entry}
@@ -87,6 +87,12 @@ pub record Shift {C Terms : Type 0} (sides : C → Sides) (config : Config) (gat
   pub knows : IsOlder (past_of last) past
   pub within : last.drawn ≤ length past.history
   pub no_pass : new.pass ≡ None
+
+-- each of these workers did its shift, with these calls; `as_work` tells what is known of a worker, before it and after
+abbrev pub EachShift : {C Terms W : Type 0} (sides : C → Sides) (config : Config) (draw_key : List ℕ) (old new : List W) (as_work : W → Work C Terms) → Gate → Known Terms → Past → List (List Call) → Type 0
+EachShift {C} {Terms} {W} sides config draw_key old new as_work gate first past all =
+    (length all ≡ length old) × ((i : ℕ) (d : W) → i < length old →
+    Shift sides config gate first (draw_at draw_key i) (as_work (slice_index_or old i d)) (as_work (slice_index_or new i d)) (slice_index_or all i []) past)
 
 -- the first pass of a turnstile of this limit, over a value of these terms
 pub record Begins {Terms : Type 0} (limit : ℕ) (terms : Terms) (gate : Gate) (first : Known Terms) : Type 0 where

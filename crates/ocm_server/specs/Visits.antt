@@ -14,7 +14,7 @@ use Rattle.ocm_server_connections.specs.Parts.{State, state, Talked}
 use Rattle.ocm_server_rounds.specs.declared.pumped.Pumped.{Pumped}
 use Rattle.ocm_server_rounds.specs.declared.pumped.RoundEnd.TheVariants.{Spent}
 use Rattle.ocm_server_rounds.specs.Rounds.{Hold, hold, Rounded}
-use Rattle.ocm_server.specs.Doors.{Doorway, came, over}
+use Rattle.ocm_server.specs.Doors.{Doorway, came_back, over}
 use Rattle.ocm_server.specs.declared.returned.Back.{Back}
 use Rattle.ocm_server.specs.declared.workers.Rounds.{Rounds}
 use Rattle.ocm_server.specs.declared.workers.Rounds.TheVariants.{Ended, DoorFault}
@@ -75,7 +75,7 @@ pub record Comes {C Terms : Type 0} (sides : C → Sides) (config : Config) (lim
   pub back : C
   pub ended : endings.Ended
   pub pumped : Option Pumped
-  pub came : told' ≡ option_map (came back ended) told
+  pub came : told' ≡ option_map (came_back back ended) told
   pub visited : Visited config limit delivers (sides conn) (sides back) ended pumped old new
 
 abbrev pub ends : Rounds → Bool

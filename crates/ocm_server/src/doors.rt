@@ -1,6 +1,6 @@
 ghost use Rattle.std.specs.Prelude.{◌≡◌, ◌≤◌, ℕ, None, Option, IfOk, IfSome, OnErr, OnOk, option_map};
 ghost use Rattle.ocm_base.specs.Outside.{Rose};
-ghost use Rattle.ocm_server.specs.Doors.{Doorway, given, came, over, IsOut};
+ghost use Rattle.ocm_server.specs.Doors.{Doorway, given, came_back, over, IsOut};
 
 use ocm_base::Failed;
 use ocm_server_connections::{Conn, Ended};
@@ -28,6 +28,6 @@ pub trait Door: Drop {
     /// Takes a connection back after its service, with its ending.
     fn done(&mut self, conn: Self::Conn, ended: Ended)
         requires { IsOut (told self.old) }
-        ensures back { told self.new ≡ option_map (came conn ended) (told self.old) }
+        ensures back { told self.new ≡ option_map (came_back conn ended) (told self.old) }
         ensures faults { faults self.new ≡ faults self.old };
 }

@@ -2,7 +2,7 @@
 
 ghost use Rattle.std.specs.Prelude.{◌≡◌, ◌≤◌, ◌+◌, [], ◌++◌, Some, None, IfOk, IfSome, OnErr, IsOk, drop, slice_get, option_map, reverse};
 ghost use Rattle.ocm_base.specs.Outside.{Rose};
-ghost use Rattle.ocm_server.specs.Doors.{given, came, over, IsOut};
+ghost use Rattle.ocm_server.specs.Doors.{given, came_back, over, IsOut};
 
 use crate::doors::Door;
 use crate::returned::Back;
@@ -110,7 +110,7 @@ impl<C: Conn> Door for MemDoor<C> {
 
     fn done(&mut self, conn: C, ended: Ended)
         requires { IsOut (Some self.old.door) }
-        ensures back { self.new.door ≡ came conn ended self.old.door }
+        ensures back { self.new.door ≡ came_back conn ended self.old.door }
         ensures rest { self.new.rest ≡ self.old.rest }
         ensures all { self.new.all ≡ self.old.all }
     {

@@ -3,7 +3,7 @@
 ghost use Rattle.std.specs.Prelude.{◌≡◌, ◌≤◌, ◌<◌, ◌^◌, ℕ, List, [], length, slice_index_or, IfOk, IfErr};
 ghost use Rattle.ocm_entry.specs.declared.entries.Entry.{Entry};
 ghost use Rattle.ocm_turn.specs.Passes.{Gate, Known, BelongsTo, all_parts};
-ghost use Rattle.ocm_server.specs.Objects.{Begins, Service, Shift, draw_at};
+ghost use Rattle.ocm_server.specs.Objects.{Begins, EachShift, Service};
 ghost use Rattle.ocm_server.specs.Visits.{work};
 
 use crate::doors::Door;
@@ -55,12 +55,8 @@ where
     requires whole { pass.parts ≡ all_parts }
     requires some { 0 < length workers.old }
     ensures service { Service T.terms T.stands T.came T.legal node pass result.value result.calls result.own
-        (λ past all. (length all ≡ length workers.old) × ((i : ℕ) (d : Worker T L N K T.Terms L.Conn) → i < length workers.old →
-        let a = slice_index_or workers.old i d in let b = slice_index_or workers.new i d in
-        Shift L.Conn.sides config.now node pass (draw_at draw_key i)
-        (work (L.told a.door) (L.faults a.door) (N.exchanges a.dial) (N.faults a.dial) (N.delivers a.dial) a.draw (K.given a.clock) a.pass a.end)
-        (work (L.told b.door) (L.faults b.door) (N.exchanges b.dial) (N.faults b.dial) (N.delivers b.dial) b.draw (K.given b.clock) b.pass b.end)
-        (slice_index_or all i []) past)) }
+        (λ past all. EachShift L.Conn.sides config.now draw_key workers.old workers.new
+        (λ w. work (L.told w.door) (L.faults w.door) (N.exchanges w.dial) (N.faults w.dial) (N.delivers w.dial) w.draw (K.given w.clock) w.pass w.end) node pass past all) }
     ensures ended { result.rounds ≡ Rounds.Ended → (i : ℕ) (d : Worker T L N K T.Terms L.Conn) → i < length workers.new → (slice_index_or workers.new i d).end ≡ Rounds.Ended }
     ensures fault { result.rounds ≡ Rounds.DoorFault → (i : ℕ) × (i < length workers.new) × ((d : Worker T L N K T.Terms L.Conn) → (slice_index_or workers.new i d).end ≡ Rounds.DoorFault) }
 {
@@ -106,12 +102,8 @@ where
     ensures served { IfOk result (λ f. (gate : Gate) × (first : Known T.Terms) × Begins limit (T.terms value) gate first
         × (J.known first.base × T.stands value first.base [] × T.legal first.terms first.base [])
         × Service T.terms T.stands T.came T.legal gate first f.value f.calls f.own
-        (λ past all. (length all ≡ length workers.old) × ((i : ℕ) (d : Worker T L N K T.Terms L.Conn) → i < length workers.old →
-        let a = slice_index_or workers.old i d in let b = slice_index_or workers.new i d in
-        Shift L.Conn.sides config.now gate first (draw_at draw_key i)
-        (work (L.told a.door) (L.faults a.door) (N.exchanges a.dial) (N.faults a.dial) (N.delivers a.dial) a.draw (K.given a.clock) a.pass a.end)
-        (work (L.told b.door) (L.faults b.door) (N.exchanges b.dial) (N.faults b.dial) (N.delivers b.dial) b.draw (K.given b.clock) b.pass b.end)
-        (slice_index_or all i []) past))) }
+        (λ past all. EachShift L.Conn.sides config.now draw_key workers.old workers.new
+        (λ w. work (L.told w.door) (L.faults w.door) (N.exchanges w.dial) (N.faults w.dial) (N.delivers w.dial) w.draw (K.given w.clock) w.pass w.end) gate first past all)) }
     // How the workers ended: a fault of a door where one of them had it.
     ensures ended { IfOk result (λ f. f.rounds ≡ Rounds.Ended → (i : ℕ) (d : Worker T L N K T.Terms L.Conn) → i < length workers.new → (slice_index_or workers.new i d).end ≡ Rounds.Ended) }
     ensures fault { IfOk result (λ f. f.rounds ≡ Rounds.DoorFault → (i : ℕ) × (i < length workers.new) × ((d : Worker T L N K T.Terms L.Conn) → (slice_index_or workers.new i d).end ≡ Rounds.DoorFault)) }

@@ -57,7 +57,7 @@ module _ {Terms : Type 0} where
     later = later;
     makes = makes;
     sound = sound;
-    newest = refl;
+    noted_is = refl;
   }
 
   pub leads_nothing : (config : Config) (at : Stand) (old : Known Terms) → Leads config at at old old nothing

@@ -41,11 +41,11 @@ pub record IsSound {Terms : Type 0} (pass : Known Terms) : Type 0 where
   pub order : InOrder pass.mine
   pub paired : length pass.moments ≡ length pass.seen
 
--- Between a first and a last state of a pass, these moments were noted when it had made these calls, the newest first: that behind the newest call that it knew of then, its own or another's, where it knew of one.
+-- Between a first and a last state of a pass, these moments were noted when it had made these calls, the newest first: that behind the newest of these; without one, that behind the newest call that it knew of at first, where it knew of one.
 pub record NotedBy {Terms : Type 0} (first final : Known Terms) (calls : List Entry) (moments : List ℕ) : Type 0 where
   pub pass : Known Terms
   pub made : Moved first pass calls
   pub later : List Entry
   pub makes : Moved pass final later
   pub sound : IsSound pass
-  pub newest : moments ≡ newest_of pass.moments
+  pub noted_is : moments ≡ newest_of pass.moments

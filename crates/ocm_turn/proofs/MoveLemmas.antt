@@ -1,6 +1,6 @@
 -- One call of a pass after another.
-use Rattle.std.proofs.Common.{◌≡◌, ℕ, ◌≤◌, ◌++◌, List, [], ◌∷◌, length, Result, Ok, Err, sym, refl, ap, ◌∙◌, append_assoc, length-append, arith, inl, inr}
-use Rattle.std.specs.Prelude.{IfOk, map}
+use Rattle.std.proofs.Common.{◌≡◌, ℕ, ◌≤◌, ◌++◌, List, [], ◌∷◌, length, Result, Ok, Err, sym, refl, ap, subst, ◌∙◌, append_assoc, length-append, arith, inl, inr}
+use Rattle.std.specs.Prelude.{IfOk, OnErr, map}
 use Rattle.std.proofs.lemmas.List.{map-append}
 use Rattle.ocm_entry.specs.declared.asks.Ask.{Ask}
 use Rattle.ocm_entry.specs.declared.replies.Reply.{Reply}
@@ -9,12 +9,16 @@ use Rattle.ocm_turn.specs.declared.turnstile.Spent.{Spent}
 use Rattle.ocm_turn.specs.declared.view.Call.{Call}
 use Rattle.ocm_turn.specs.Calls.{IsOlderPart, entry, call}
 use Rattle.ocm_turn.specs.Passes.{Known, SameGround}
-use Rattle.ocm_turn.specs.Moves.{Moved, Unspent}
+use Rattle.ocm_turn.specs.Moves.{Moved, SeesNewest, Unspent}
 use Rattle.ocm_turn.proofs.CallLemmas.{older_through}
 
 longer_by_none : (own mine : List Call) → mine ≡ own ++ mine → own ≡ []
 longer_by_none [] mine e = refl
 longer_by_none (c ∷ own) mine e = absurd (let n = ap length e ∙ length-append (c ∷ own) mine in omega (arith, n))
+
+newest_then : (a b c : List Entry) (x y : List Call) → IsOlderPart a b → SeesNewest a x b → SeesNewest b y c → SeesNewest a (y ++ x) c
+newest_then a b c x [] seen first second = subst (λ (l : List Entry). SeesNewest a x l) (sym second) first
+newest_then a b c x (newest ∷ y) seen first second = (second.0, second.1, second.2, older_through a b second.0 seen second.3)
 
 module _ {Terms : Type 0} where
   pub same_ground : (a : Known Terms) → SameGround a a
@@ -28,7 +32,7 @@ module _ {Terms : Type 0} where
   }
 
   pub moved_nothing : (a : Known Terms) → Moved a a []
-  moved_nothing a = record { ground = same_ground a; seen = ([], refl); moments = ([], refl); paired = λ p. p; mine = ([], refl, refl); drawn = omega arith; parts = refl }
+  moved_nothing a = record { ground = same_ground a; seen = ([], refl); moments = ([], refl); paired = λ p. p; mine = ([], refl, refl); newest = refl; drawn = omega arith; parts = refl }
 
   pub moved_then : (a b c : Known Terms) (x y : List Entry) → Moved a b x → Moved b c y → Moved a c (y ++ x)
   moved_then a b c x y p q = record {
@@ -41,6 +45,7 @@ module _ {Terms : Type 0} where
       q.mine.1 ∙ (ap (λ (l : List Call). q.mine.0 ++ l) p.mine.1 ∙ sym (append_assoc q.mine.0 p.mine.0 a.mine)),
       map-append (λ (c : Call). c.entry) q.mine.0 p.mine.0 ∙ λ i. q.mine.2 i ++ p.mine.2 i,
     );
+    newest = newest_then a.seen b.seen c.seen p.mine.0 q.mine.0 p.seen p.newest q.newest;
     drawn = omega (arith, p.drawn, q.drawn);
     parts = q.parts ∙ p.parts;
   }
@@ -65,10 +70,27 @@ module _ {Terms : Type 0} where
     moments = (moments.0 ∷ moments.3.0, moments.2 ∙ ap (λ (l : List ℕ). moments.0 ∷ l) moments.3.1);
     paired = λ _. paired;
     mine = (call new.drawn (entry ask reply) ∷ [], mine, refl);
+    newest = (seen.0, seen.1, sym seen.3, seen.2);
     drawn = drawn;
     parts = ground.1;
   }
   moved_call old new ask (Err spent) ground seen mine drawn moments paired = tt
+
+  -- a call of the turnstile that was refused
+  pub moved_refused : (old new : Known Terms) (r : Result Reply Spent) → SameGround old new × (new.parts ≡ old.parts)
+      → OnErr r ((new.seen ≡ old.seen) × (new.mine ≡ old.mine)) → old.drawn ≤ new.drawn → OnErr r (new.moments ≡ old.moments) → length new.moments ≡ length new.seen
+      → OnErr r (Moved old new [])
+  moved_refused old new (Ok reply) ground nothing drawn no_moment paired = tt
+  moved_refused old new (Err spent) ground nothing drawn no_moment paired = record {
+    ground = ground.0;
+    seen = ([], nothing.0);
+    moments = ([], no_moment);
+    paired = λ _. paired;
+    mine = ([], nothing.1, refl);
+    newest = nothing.0;
+    drawn = drawn;
+    parts = ground.1;
+  }
 
   -- a pass that is the same made no calls
   pub moved_same : (a : Known Terms) (calls : List Entry) → Moved a a calls → calls ≡ []

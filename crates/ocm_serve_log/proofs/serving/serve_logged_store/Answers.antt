@@ -5,7 +5,7 @@ use denote.Param.SendFields.{declared_send}
 use denote.RattleType.{RattleType}
 use mir.Syntax.{ty_unit}
 use Rattle.std.proofs.Crossing.{crosses}
-use Rattle.std.proofs.Common.{◌≡◌, ◌∙◌, ℕ, List, [], sym, ap, subst}
+use Rattle.std.proofs.Common.{◌≡◌, ◌∙◌, [], sym, ap, subst}
 use Rattle.std.specs.Prelude.{IfSome}
 use Rattle.ocm_disk.specs.declared.disk.Disk.{Ghosts}
 use Rattle.ocm_server.specs.declared.served.Served.{Served}
@@ -16,7 +16,7 @@ use Rattle.ocm_serve_log.proofs.Holding.{begun}
 use Rattle.ocm_serve_log.proofs.Told.{logged_run}
 use Rattle.ocm_serve_log.proofs.logs.Log.TheSendSync as log
 use Rattle.ocm_store.proofs.stores.Store.TheSendSync as store
-use Rattle.ocm_store.specs.Stores.{IsLegalUnder, Stands, host_of, terms_of}
+use Rattle.ocm_store.specs.Stores.{IsLegalUnder, Stands, terms_of}
 use Rattle.ocm_serve_log.proofs.serving.serve_logged_store.Goals as goal
 
 pub serve_object-requires-clause-value : goal.serve_object-requires-clause-value

@@ -1,4 +1,4 @@
-use Rattle.std.proofs.Common.{◌≡◌, List, ℕ, subst}
+use Rattle.std.proofs.Common.{◌≡◌, subst}
 use Rattle.std.specs.Prelude.{IfOk}
 use Rattle.ocm_access_log.specs.Written.{written_ask}
 use Rattle.ocm_serve_log.proofs.logs.Log.add.Goals as goal

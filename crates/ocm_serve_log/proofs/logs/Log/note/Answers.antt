@@ -1,4 +1,4 @@
-use Rattle.std.proofs.Common.{List, ℕ, Option, ◌++◌, subst}
+use Rattle.std.proofs.Common.{ℕ, Option, ◌++◌, subst}
 use Rattle.std.specs.Prelude.{IfSome}
 use Rattle.ocm_access_log.specs.Truth.{status_of}
 use Rattle.ocm_serve_log.specs.Logs.{Holds, IsMadeOf, line_with}

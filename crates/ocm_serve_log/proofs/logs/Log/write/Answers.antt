@@ -1,4 +1,4 @@
-use Rattle.std.proofs.Common.{◌∙◌, List, ℕ, ap, sym, subst}
+use Rattle.std.proofs.Common.{List, ℕ, subst}
 use Rattle.ocm_base.specs.Outside.{Appends, AppendsPart}
 use Rattle.ocm_serve_log.proofs.Holding.{written_all, written_part}
 use Rattle.ocm_serve_log.proofs.logs.Log.write.Goals as goal
