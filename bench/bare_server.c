@@ -1,4 +1,4 @@
-/* A server that does the least: what a GET and a change cost any program on this machine.
+/* A server that does little: about what a GET and a change cost any program on this machine.
  *
  *     cc -O2 -pthread -o bare_server bare_server.c && ./bare_server FILE
  *
