@@ -9,6 +9,7 @@ use ocm_base::{Bytes, List};
 use ocm_cases_rows::{Steps, steps_told};
 use ocm_disk::MemDisk;
 use ocm_journal::{AppendFault, Journal, RenewFault};
+use ocm_journal_image::FramedRecord;
 use std::alloc::Global;
 
 /// What each step of a case tells. None where a step is none, or where memory was wanting for what it tells.
@@ -83,7 +84,8 @@ fn append_bytes(alloc: Global, journal: &mut Journal<MemDisk>, record: &[u8]) ->
         return None;
     }
     journal.room(size as u64).ok()?;
-    match journal.append(record) {
+    let framed = FramedRecord::of(alloc, record).ok()?;
+    match journal.append(&framed) {
         Ok(()) => String::from_str(alloc, "done").ok(),
         Err(AppendFault::Full) => String::from_str(alloc, "full").ok(),
         Err(AppendFault::DiskFault(count)) => format!(in alloc; "disk fault {count}").ok(),

@@ -10,16 +10,20 @@ ghost use Rattle.ocm_history_records.specs.Drafts.{IsDraft};
 ghost use Rattle.ocm_history_records.specs.Kept.{is_tick_record, kept_at};
 
 use crate::kept::{KeptRecord, KeptRecords};
-use ocm_base::{Bytes, NoMemory, and};
+use ocm_base::{NoMemory, and};
 use ocm_entry::Ask;
 use ocm_entry_bytes::{add_ask, encode};
+use ocm_journal_image::FramedRecord;
 use std::alloc::Global;
+
+/// How many bytes the record of a PUT has at most beside the body, in form 2.
+const MOST_BESIDE_BODY: usize = 1_297;
 
 /// A change as it is written, and what is kept of it in memory.
 #[derive(Drop)]
 pub struct Draft {
-    /// Its record in the form of the live area.
-    pub written: Bytes,
+    /// Its record in the form of the live area, as it is written.
+    pub written: FramedRecord,
     /// What is kept of it in memory.
     pub newest: KeptRecord,
     /// How many bytes of an area its record takes in form 2, with its gate byte and its length.
@@ -87,29 +91,56 @@ impl Draft {
 }
 
 /// The record of this form, of an ask whose record in form 2 this is: the spelling alone, or that with its moment.
-fn in_form(alloc: Global, form: u8, ask: &Ask, text: Bytes) -> Result<Bytes, NoMemory>
+fn in_form(
+    alloc: Global,
+    form: u8,
+    ask: &Ask,
+    stamped: FramedRecord,
+) -> Result<FramedRecord, NoMemory>
     requires { IsTrue (has_spelling ask.now) }
-    ensures { IfOk result (λ written. written ≡ (if form == 1 then spelling ask.now else text)) }
+    ensures { IfOk result (λ written. written ≡ (if form == 1 then spelling ask.now else stamped)) }
 {
     if form == 1 {
-        drop(text);
-        encode(alloc, ask)
+        drop(stamped);
+        let text = encode(alloc, ask)?;
+        FramedRecord::of(alloc, text.as_slice())
     } else {
-        Ok(text)
+        Ok(stamped)
     }
 }
 
 /// The record in form 2 of an ask at a moment: the ask is spelled straight behind the moment.
-fn stamped(alloc: Global, clock: u64, ask: &Ask) -> Result<Bytes, NoMemory>
+fn stamped(alloc: Global, clock: u64, ask: &Ask) -> Result<FramedRecord, NoMemory>
     requires { IsTrue (has_spelling ask.now) }
-    ensures text { IfOk result (λ text. text ≡ stamp clock ask.now) }
+    ensures text { IfOk result (λ written. written ≡ stamp clock ask.now) }
     ensures fits { OnOk result (Fits ask.now) }
 {
-    let mut text = Bytes::of(alloc, &clock.to_be_bytes())?;
+    let mut text = FramedRecord::begin(alloc, room_for(ask))?;
+    text.add(&clock.to_be_bytes())?;
     if !is_tick(ask) {
         add_ask(alloc, &mut text, ask)?;
     }
-    Ok(text)
+    FramedRecord::finish(alloc, text)
+}
+
+/// For how many bytes of a record room is taken at first. The record of a PUT has no more, so its body is not moved again.
+fn room_for(ask: &Ask) -> usize {
+    match ask {
+        Ask::Dav {
+            secret: _,
+            method: _,
+            path: _,
+            body,
+        } => MOST_BESIDE_BODY.saturating_add(body.len()),
+        Ask::AddUser { .. }
+        | Ask::Local { .. }
+        | Ask::Offer { .. }
+        | Ask::Notice { .. }
+        | Ask::Tick { .. }
+        | Ask::Due
+        | Ask::Settle { .. }
+        | Ask::Carry { .. } => MOST_BESIDE_BODY,
+    }
 }
 
 /// Whether an ask is a tick.

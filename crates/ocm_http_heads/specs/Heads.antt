@@ -1,5 +1,5 @@
 -- What a head says (RFC 9112 sections 2 to 5 and 9.6), over the grammar that httparse reads.
-use Rattle.std.specs.Prelude.{◌≡◌, ℕ, Bool, true, not, ◌&&◌, ◌||◌, ◌==◌, nat_eq, nat_le, List, [], map, take, drop, codes, Option, Some, None}
+use Rattle.std.specs.Prelude.{◌≡◌, ◌<◌, ℕ, Bool, true, not, ◌&&◌, ◌||◌, ◌==◌, nat_eq, nat_le, List, [], length, map, take, drop, codes, Option, Some, None}
 use Rattle.std.specs.List.{list_any, list_all, slice_split}
 use Rattle.std.specs.Char.{to_ascii_lowercase}
 use Rattle.std.specs.Cmp.Lexicographic.{pointwise}
@@ -50,6 +50,11 @@ reply_of h = Reply (status_code h) (map field_of h.fields)
 abbrev pub SaysRequest : List ℕ → Option Head → Type 0
 SaysRequest text None = (h : RequestHead) → ¬ (ReadsRequest text h [])
 SaysRequest text (Some head) = (h : RequestHead) × ReadsRequest text h [] × (head ≡ request_of h)
+
+-- what is read where there is room for so many fields: the head, or none that has so few
+abbrev pub SaysWithin : ℕ → List ℕ → Option Head → Type 0
+SaysWithin most text None = (h : RequestHead) → ReadsRequest text h [] → most < length h.fields
+SaysWithin most text (Some head) = SaysRequest text (Some head)
 
 -- whether a status is final: those from 100 to 199 are not (RFC 9110 section 15.2)
 abbrev pub is_final : ℕ → Bool

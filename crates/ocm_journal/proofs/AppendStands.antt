@@ -2,11 +2,11 @@
 use Rattle.std.proofs.Common.{◌≡◌, ◌≤◌, ◌<◌, inl, ℕ, ◌+◌, false, List, [], ◌∷◌, ◌++◌, length, Result, Ok, Err, is_err, OnOk, sym, ◌∙◌, ap, subst, arith}
 use Rattle.ocm_disk.specs.Disk.{LeavesOnly, Only, Torn}
 use Rattle.ocm_disk.specs.declared.disk.Disk.{Ghosts}
-use Rattle.ocm_journal_image.specs.Layout.{IsImage, blocks_size, live_start}
+use Rattle.ocm_journal_image.specs.Layout.{IsImage, blocks_size, live_start, record_text}
 use Rattle.ocm_journal.specs.declared.journal.Journal.{Journal}
 use Rattle.ocm_journal.specs.AfterFaults.{AfterFault}
 use Rattle.ocm_journal.specs.Steps.{Switched, InSwitch, SwitchCutShort}
-use Rattle.ocm_journal.specs.Journals.{record_text, IsBeforeOrAfter, IsImageWith, StandsFor, first_is_live}
+use Rattle.ocm_journal.specs.Journals.{IsBeforeOrAfter, IsImageWith, StandsFor, first_is_live}
 use Rattle.ocm_journal.proofs.Moving.{weaker}
 use Rattle.ocm_journal.proofs.Appended.{in_append, after_append, after_ruin, stays_live, start_at_least}
 use Rattle.ocm_journal.proofs.Holding.{whole_is_torn}

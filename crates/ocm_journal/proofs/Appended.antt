@@ -4,10 +4,10 @@ use Rattle.std.proofs.lemmas.Bool.{cases_eq}
 use Rattle.std.proofs.lemmas.Bool.Decides.{nat_tests}
 use Rattle.std.specs.Int.{w32, w64, to_be_bytes}
 use Rattle.ocm_disk.specs.Disk.{Torn, Holds}
-use Rattle.ocm_journal_image.specs.Layout.{IsImage, HoldsAt, AreRecords, named, block, blocks, blocks_size, area_text, live_start}
+use Rattle.ocm_journal_image.specs.Layout.{IsImage, HoldsAt, AreRecords, named, block, blocks, blocks_size, area_text, live_start, record_text}
 use Rattle.ocm_journal_image.proofs.Sizes.{length-blocks}
 use Rattle.ocm_journal.specs.Steps.{Switched, InSwitch}
-use Rattle.ocm_journal.specs.Journals.{record_text, IsBeforeOrAfter}
+use Rattle.ocm_journal.specs.Journals.{IsBeforeOrAfter}
 use Rattle.ocm_journal.proofs.Holding.{holds_both, holds_first, holds_byte, stays_before, stays_behind, written_holds, whole_is_torn}
 
 pub length-named : (label : List ℕ) (area : ℕ) → length (named label area) ≡ 16 + length label

@@ -1,6 +1,5 @@
 -- What a journal stands for.
-use Rattle.std.specs.Prelude.{replicate, ◌≡◌, ◌<◌, ◌≤◌, ◌⊎◌, ◌==◌, ℕ, ◌+◌, List, [], ◌∷◌, ◌++◌, length, slice_index, if◌then◌else◌, Bool, true, vec_capacity}
-use Rattle.std.specs.Int.{w32, to_be_bytes}
+use Rattle.std.specs.Prelude.{replicate, ◌≡◌, ◌<◌, ◌≤◌, ◌⊎◌, ◌==◌, ℕ, ◌+◌, List, [], ◌∷◌, ◌++◌, length, slice_index, if◌then◌else◌, Bool, true}
 use Rattle.ocm_disk.specs.Disk.{Only}
 use Rattle.ocm_disk.specs.declared.disk.Disk.{Ghosts}
 use Rattle.ocm_journal_image.specs.Layout.{HoldsAt, IsImage, blocks_size, area_text, live_start}
@@ -13,10 +12,6 @@ selects_first label bytes = slice_index bytes (17 + length label) == 1
 -- an image of the records, with the first area live or the second
 abbrev pub IsImageWith : Bool → List ℕ → ℕ → ℕ → List (List ℕ) → List ℕ → Type 0
 IsImageWith first label area form records bytes = IsImage label area form records bytes × (selects_first label bytes ≡ first)
-
--- the bytes of a record behind its gate, and the closed gate behind them
-abbrev pub record_text : List ℕ → List ℕ
-record_text r = to_be_bytes w32 (length r) ++ r ++ 0 ∷ []
 
 -- an image of the records, with one more or without it
 abbrev pub IsBeforeOrAfter : List ℕ → ℕ → ℕ → List (List ℕ) → List ℕ → List ℕ → Type 0
@@ -68,7 +63,7 @@ IsFullFor journal n = journal.start + journal.area < journal.gate + n + 6
 
 -- there is room for a record of so many bytes
 abbrev pub HasRoom : {D : Type 0} (disk : Ghosts D) → Journal D disk → ℕ → Type 0
-HasRoom disk journal n = (n + 5 ≤ vec_capacity journal.text) × (journal.gate + n + 6 ≤ disk.size journal.disk + disk.spare journal.disk)
+HasRoom disk journal n = journal.gate + n + 6 ≤ disk.size journal.disk + disk.spare journal.disk
 
 -- the area size and the form of the live area are the same
 abbrev pub SameShape : {D : Type 0} {disk : Ghosts D} → Journal D disk → Journal D disk → Type 0

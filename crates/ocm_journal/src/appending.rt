@@ -1,15 +1,15 @@
-ghost use Rattle.std.specs.Prelude.{◌≡◌, ◌⊎◌, ◌<◌, ◌≤◌, ◌+◌, ◌^◌, ◌∷◌, [], ◌++◌, ◌↔◌, ℕ, List, length, vec_capacity, OnOk, OnErr, IsOk, IsErr, IfErr, IsErrOf, true, false};
-ghost use Rattle.std.specs.Int.{w32, to_be_bytes};
+ghost use Rattle.std.specs.Prelude.{◌≡◌, ◌⊎◌, ◌<◌, ◌≤◌, ◌+◌, ◌^◌, ◌∷◌, [], ◌++◌, ◌↔◌, ℕ, List, length, OnOk, OnErr, IsOk, IsErr, IfErr, IsErrOf, true, false};
 ghost use Rattle.ocm_base.specs.Outside.{raised};
 ghost use Rattle.ocm_disk.specs.Disk.{LeavesOnly};
 ghost use Rattle.ocm_journal.specs.AfterFaults.{AfterFault};
 ghost use Rattle.ocm_journal.specs.Faults.{HasCount, stops};
-ghost use Rattle.ocm_journal.specs.Journals.{record_text, IsBeforeOrAfter, IsImageWith, disk_of, first_is_live, IsFullFor, IsStopped, HasRoom, IsShut, SameShape, StandsFor};
+ghost use Rattle.ocm_journal.specs.Journals.{IsBeforeOrAfter, IsImageWith, disk_of, first_is_live, IsFullFor, IsStopped, HasRoom, IsShut, SameShape, StandsFor};
 
 use crate::journal::Journal;
 use crate::steps::put_behind;
 use ocm_base::NoMemory;
 use ocm_disk::Disk;
+use ocm_journal_image::FramedRecord;
 
 /// Why a record was not appended.
 #[derive(Clone, Copy, Debug, PartialEq, Eq)]
@@ -20,33 +20,9 @@ pub enum AppendFault {
     DiskFault(u64),
 }
 
-// Adds a piece to a text that has room for it.
-fn add(text: &mut Vec<u8>, piece: &[u8])
-    requires { length text.old.items + length piece.now ≤ vec_capacity text.old }
-    ensures items { text.new.items ≡ text.old.items ++ piece.now }
-    ensures capacity { vec_capacity text.old ≤ vec_capacity text.new }
-{
-    match text.extend_from_slice(piece) {
-        Ok(()) => {}
-        Err(_) => unreachable!(),
-    }
-}
-
-// What is written of a record before its gate byte.
-fn fill(text: &mut Vec<u8>, bytes: &[u8])
-    requires few { length bytes.now ≤ 2097152 }
-    requires room { length bytes.now + 5 ≤ vec_capacity text.old }
-    ensures items { text.new.items ≡ record_text bytes.now }
-    ensures capacity { vec_capacity text.old ≤ vec_capacity text.new }
-{
-    text.clear();
-    add(text, &(bytes.len() as u32).to_be_bytes());
-    add(text, bytes);
-    add(text, &[0]);
-}
-
 impl<D: Disk> Journal<D> {
-    /// Takes memory for a record of `n` bytes. It is no device call.
+    /// Takes the memory that the disk needs for a record of `n` bytes, and answers `NoMemory` where it finds none. It is no
+    /// device call.
     pub fn room(&mut self, n: u64) -> Result<(), NoMemory>
         ensures room { OnOk result (HasRoom ⟦<D as Disk>⟧ self.new n) }
         ensures shape { SameShape self.old self.new }
@@ -60,27 +36,25 @@ impl<D: Disk> Journal<D> {
         let Some(size) = n.checked_add(5) else {
             return Err(NoMemory);
         };
-        self.text.clear();
-        self.text.reserve(size as usize)?;
         self.disk.room(size)
     }
 
     /// Appends a record of 1 to 2,097,152 bytes, for which room was taken. At `Ok` it is on the disk: from then on
-    /// each crash leaves it there. Takes no memory.
-    pub fn append(&mut self, bytes: &[u8]) -> Result<(), AppendFault>
-        requires size { (1 ≤ length bytes.now) × (length bytes.now ≤ 2097152) }
-        requires room { HasRoom ⟦<D as Disk>⟧ self.old (length bytes.now) }
+    /// each crash leaves it there. It is written as it is, and not copied. Takes no memory.
+    pub fn append(&mut self, framed: &FramedRecord) -> Result<(), AppendFault>
+        requires size { (1 ≤ length framed.now) × (length framed.now ≤ 2097152) }
+        requires room { HasRoom ⟦<D as Disk>⟧ self.old (length framed.now) }
         requires goes { self.old.stopped ≡ false }
         ensures acknowledged { D.tells → (label : List ℕ) (records : List (List ℕ)) → StandsFor ⟦<D as Disk>⟧ label records self.old
-            → OnOk result (StandsFor ⟦<D as Disk>⟧ label (records ++ bytes.now ∷ []) self.new) }
+            → OnOk result (StandsFor ⟦<D as Disk>⟧ label (records ++ framed.now ∷ []) self.new) }
 
         // The gate behind the record is closed by 00.
         ensures shut { D.tells → OnOk result (IsShut ⟦<D as Disk>⟧ self.new) }
 
         // A crash at any moment of the call leaves an image of the records from before it, with the new one or without.
         ensures any_moment { D.tells → (label : List ℕ) (records : List (List ℕ)) → StandsFor ⟦<D as Disk>⟧ label records self.old
-            → LeavesOnly D.moment D.left_since (disk_of self.old) (disk_of self.new) (IsBeforeOrAfter label self.old.area self.old.form records bytes.now) }
-        ensures full { IsErrOf result AppendFault.Full ↔ IsFullFor self.old (length bytes.now) }
+            → LeavesOnly D.moment D.left_since (disk_of self.old) (disk_of self.new) (IsBeforeOrAfter label self.old.area self.old.form records framed.now) }
+        ensures full { IsErrOf result AppendFault.Full ↔ IsFullFor self.old (length framed.now) }
         ensures unchanged { IsErrOf result AppendFault.Full → self.new ≡ self.old }
         ensures fault { IfErr result (HasCount (D.count (disk_of self.old)) (D.count (disk_of self.new))) }
         ensures count { OnOk result (D.count (disk_of self.new) ≡ D.count (disk_of self.old)) }
@@ -95,14 +69,14 @@ impl<D: Disk> Journal<D> {
         // What stands on the disk where the calls that were left ended within it.
         ensures after_fault { D.tells → (label : List ℕ) (records : List (List ℕ)) (left : ℕ) → StandsFor ⟦<D as Disk>⟧ label records self.old → IsStopped self.new
             → D.passes (disk_of self.old) left → D.burnt (disk_of self.old) left
-            → AfterFault ⟦<D as Disk>⟧ left false (IsImageWith (first_is_live self.old) label self.old.area self.old.form records) (IsImageWith (first_is_live self.old) label self.old.area self.old.form (records ++ bytes.now ∷ [])) (disk_of self.new) }
+            → AfterFault ⟦<D as Disk>⟧ left false (IsImageWith (first_is_live self.old) label self.old.area self.old.form records) (IsImageWith (first_is_live self.old) label self.old.area self.old.form (records ++ framed.now ∷ [])) (disk_of self.new) }
     {
-        let size = bytes.len() as u64;
+        let size = framed.len() as u64;
         if self.start + self.area < self.gate + size + 6 {
             return Err(AppendFault::Full);
         }
-        fill(&mut self.text, bytes);
-        if put_behind(&mut self.disk, self.gate + 1, &self.text, self.gate, 1).is_err() {
+        let text = framed.as_written();
+        if put_behind(&mut self.disk, self.gate + 1, text, self.gate, 1).is_err() {
             self.stopped = true;
             return Err(AppendFault::DiskFault(self.disk.faults()));
         }

@@ -207,7 +207,7 @@ impl<D: Disk> Journal<D> {
                     form,
                     gate,
                     stopped: false,
-                    text: Vec::new(alloc),
+                    alloc,
                 };
                 Ok((journal, records))
             }

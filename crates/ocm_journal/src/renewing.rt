@@ -98,7 +98,7 @@ impl<D: Disk> Journal<D> {
         }
         let (other, byte) = other_area(self.start, self.area);
         let place = other.min(self.disk.len());
-        let text = area_bytes(*self.text.allocator(), (other - place) as usize, records)?;
+        let text = area_bytes(self.alloc, (other - place) as usize, records)?;
         let end = place + text.len() as u64;
         self.disk.room(text.len() as u64)?;
         if put_behind(&mut self.disk, place, text.as_slice(), self.selector, byte).is_err() {

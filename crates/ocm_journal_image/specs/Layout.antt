@@ -15,6 +15,10 @@ named label area = mark ++ length label ∷ label ++ to_be_bytes w64 area
 abbrev pub block : List ℕ → List ℕ
 block record_bytes = 1 ∷ to_be_bytes w32 (length record_bytes) ++ record_bytes
 
+-- what is written of a record behind its gate: four bytes of length, its bytes, and the closed gate behind them
+abbrev pub record_text : List ℕ → List ℕ
+record_text record_bytes = to_be_bytes w32 (length record_bytes) ++ record_bytes ++ 0 ∷ []
+
 -- records in an area, the oldest first
 abbrev pub blocks : List (List ℕ) → List ℕ
 blocks [] = []

@@ -4,6 +4,7 @@
 mod areas;
 mod blanks;
 mod faults;
+mod framed;
 mod fresh;
 mod headers;
 mod images;
@@ -13,6 +14,7 @@ mod readings;
 pub use areas::{GREATEST_RECORD, next_record, read_area};
 pub use blanks::{Blank, read_blank, read_blank_for_any};
 pub use faults::{ImageFault, NotImage};
+pub use framed::FramedRecord;
 pub use fresh::{area_bytes, fits_area, fresh_bytes};
 pub use headers::{GREATEST_AREA, HEADER_SIZE, LEAST_AREA, read_header};
 pub use images::{Front, read_front, read_image};

@@ -75,7 +75,7 @@ pub(crate) fn write_change<D: Disk>(
         → AfterFault ⟦<D as Disk>⟧ left (switches_to_second host (area_of journal.old) g ask live) (OpensLive host (area_of journal.old) g live)
         (OpensLive host (area_of journal.old) (heard host g ask ∷ g) (grown_by host (area_of journal.old) g ask live)) (disk_of journal.new) }
 {
-    match journal.append(draft.written.as_slice()) {
+    match journal.append(&draft.written) {
         Ok(()) => Ok(()),
         Err(AppendFault::DiskFault(count)) => Err(WriteFault::DiskFault(count)),
         Err(AppendFault::Full) => write_anew(journal, history, planned, &draft.newest),

@@ -1,9 +1,8 @@
-use Rattle.std.proofs.Common.{ap, subst, sym, refl, length, false, ◌++◌, ◌∷◌, []}
+use Rattle.std.proofs.Common.{ap, refl}
 use Rattle.std.proofs.lemmas.Result.{on_ok_weaker}
 use Rattle.std.specs.Prelude.{Err}
 use Rattle.ocm_history.specs.Histories.{home_of}
-use Rattle.ocm_journal.specs.AfterFaults.{AfterFault}
-use Rattle.ocm_journal.specs.Journals.{IsFullFor, IsImageWith, StandsFor, area_of, disk_of, first_is_live, form_of}
+use Rattle.ocm_journal.specs.Journals.{disk_of, form_of}
 use Rattle.ocm_rules.proofs.Lists.{not_both}
 use Rattle.ocm_store.proofs.Journaling.{anew-after_fault, appended, appended-moments, behind-after_fault, failed-append, grown-anew, grown-behind, passed-append}
 use Rattle.ocm_store.proofs.writing.write_change.Goals as goal
@@ -13,12 +12,12 @@ use Rattle.ocm_store.proofs.writing.write_change.Goals as goal
 pub returns-in-Ok-clause-written : goal.returns-in-Ok-clause-written
 returns-in-Ok-clause-written G c = λ tells g ask change w.
     let host = home_of c.args.history.now in
-    let holds = subst (λ b. StandsFor G.D.Disk host (w.records ++ b ∷ []) c.append.new.self) c.as_slice.ensures (c.in-Ok.ensures.acknowledged tells host w.records w.holds) in
+    let holds = c.in-Ok.ensures.acknowledged tells host w.records w.holds in
     appended G.D.Disk c.args.history.now g ask c.args.planned.now (form_of c.args.journal.now) c.args.draft.now change c.args.journal.now c.append.new.self refl c.append.ensures.shape.1 w holds
 
 pub returns-in-Ok-clause-any_moment : goal.returns-in-Ok-clause-any_moment
 returns-in-Ok-clause-any_moment G c = λ tells g ask change w.
-    appended-moments G.D.Disk c.args.history.now g ask c.args.planned.now (form_of c.args.journal.now) c.args.draft.now change c.args.journal.now c.append.new.self c.as_slice.result.now c.as_slice.ensures refl w
+    appended-moments G.D.Disk c.args.history.now g ask c.args.planned.now (form_of c.args.journal.now) c.args.draft.now change c.args.journal.now c.append.new.self c.args.draft.now.written refl refl w
     (c.append.ensures.any_moment tells (home_of c.args.history.now) w.records w.holds)
 
 pub returns-in-Ok-clause-made : goal.returns-in-Ok-clause-made
@@ -27,9 +26,9 @@ returns-in-Ok-clause-made G c = λ left. (c.in-Ok.ensures.calls left, λ pass. p
 pub returns-in-Ok-clause-live : goal.returns-in-Ok-clause-live
 returns-in-Ok-clause-live G c = λ tells g ask live change h.
     let host = home_of c.args.history.now in
-    let holds = subst (λ b. StandsFor G.D.Disk host (live.records ++ b ∷ []) c.append.new.self) c.as_slice.ensures (c.in-Ok.ensures.acknowledged tells host live.records h.holds) in
+    let holds = c.in-Ok.ensures.acknowledged tells host live.records h.holds in
     grown-behind G.D.Disk c.args.history.now g ask c.args.planned.now (form_of c.args.journal.now) c.args.draft.now change c.args.journal.now c.append.new.self live refl h c.append.ensures.shape
-    (λ full. let wrong = c.in-Ok.ensures.full.1 (subst (λ b. IsFullFor c.args.journal.now (length b)) (sym c.as_slice.ensures) full) in absurd (cc)) holds
+    (λ full. let wrong = c.in-Ok.ensures.full.1 full in absurd (cc)) holds
 
 pub returns-in-Ok-clause-after_fault : goal.returns-in-Ok-clause-after_fault
 returns-in-Ok-clause-after_fault G c = λ tells g ask live left change w h stopped pass burnt. absurd (not_both _ stopped c.in-Ok.ensures.stopped)
@@ -43,18 +42,17 @@ pub returns-in-Err-DiskFault-clause-after_fault : goal.returns-in-Err-DiskFault-
 returns-in-Err-DiskFault-clause-after_fault G c = λ tells g ask live left change w h stopped pass burnt.
     let host = home_of c.args.history.now in
     let old = c.args.journal.now in
-    let first = first_is_live old in
     let after = c.append.ensures.after_fault tells host live.records left h.holds stopped pass burnt in
     behind-after_fault G.D.Disk c.args.history.now g ask c.args.planned.now (form_of old) c.args.draft.now change old (disk_of c.append.new.self) live left refl h w
-    (λ full. let wrong = c.in-Err-DiskFault.ensures.full.1 (subst (λ b. IsFullFor old (length b)) (sym c.as_slice.ensures) full) in let is = c.in-Err-DiskFault.field-0-is in absurd (cc))
-    (subst (λ b. AfterFault G.D.Disk left false (IsImageWith first host (area_of old) (form_of old) live.records) (IsImageWith first host (area_of old) (form_of old) (live.records ++ b ∷ [])) (disk_of c.append.new.self)) c.as_slice.ensures after)
+    (λ full. let wrong = c.in-Err-DiskFault.ensures.full.1 full in let is = c.in-Err-DiskFault.field-0-is in absurd (cc))
+    after
 
 pub returns-in-Err-DiskFault-clause-unwritten : goal.returns-in-Err-DiskFault-clause-unwritten
 returns-in-Err-DiskFault-clause-unwritten G c = λ tells g w none. absurd none
 
 pub returns-in-Err-DiskFault-clause-any_moment : goal.returns-in-Err-DiskFault-clause-any_moment
 returns-in-Err-DiskFault-clause-any_moment G c = λ tells g ask change w.
-    appended-moments G.D.Disk c.args.history.now g ask c.args.planned.now (form_of c.args.journal.now) c.args.draft.now change c.args.journal.now c.append.new.self c.as_slice.result.now c.as_slice.ensures refl w
+    appended-moments G.D.Disk c.args.history.now g ask c.args.planned.now (form_of c.args.journal.now) c.args.draft.now change c.args.journal.now c.append.new.self c.args.draft.now.written refl refl w
     (c.append.ensures.any_moment tells (home_of c.args.history.now) w.records w.holds)
 
 pub returns-in-Err-DiskFault-clause-not_made : goal.returns-in-Err-DiskFault-clause-not_made
@@ -111,7 +109,7 @@ pub returns-in-Err-Full-clause-live : goal.returns-in-Err-Full-clause-live
 returns-in-Err-Full-clause-live G c = λ tells g ask live change h.
     let same = c.in-Err-Full.ensures.unchanged (ap Err c.in-Err-Full.field-0-is) in
     let anew = rw same at c.write_anew.ensures.live in
-    let full = subst (λ b. IsFullFor c.args.journal.now (length b)) c.as_slice.ensures (c.in-Err-Full.ensures.full.0 (ap Err c.in-Err-Full.field-0-is)) in
+    let full = c.in-Err-Full.ensures.full.0 (ap Err c.in-Err-Full.field-0-is) in
     on_ok_weaker c.write_anew.result
     (grown-anew G.D.Disk c.args.history.now g ask c.args.planned.now (form_of c.args.journal.now) c.args.draft.now change c.args.journal.now c.write_anew.new.journal live refl h full)
     (anew tells g ask (form_of c.args.journal.now) c.args.draft.now live change refl h)
@@ -123,6 +121,6 @@ pub returns-in-Err-Full-clause-after_fault : goal.returns-in-Err-Full-clause-aft
 returns-in-Err-Full-clause-after_fault G c = λ tells g ask live left change w h stopped pass burnt.
     let same = c.in-Err-Full.ensures.unchanged (ap Err c.in-Err-Full.field-0-is) in
     let anew = rw same at c.write_anew.ensures.after_fault in
-    let full = subst (λ b. IsFullFor c.args.journal.now (length b)) c.as_slice.ensures (c.in-Err-Full.ensures.full.0 (ap Err c.in-Err-Full.field-0-is)) in
+    let full = c.in-Err-Full.ensures.full.0 (ap Err c.in-Err-Full.field-0-is) in
     anew-after_fault G.D.Disk c.args.history.now g ask c.args.planned.now (form_of c.args.journal.now) c.args.draft.now change c.args.journal.now (disk_of c.write_anew.new.journal) live left refl h full
     (anew tells g ask (form_of c.args.journal.now) c.args.draft.now live left change refl w h stopped pass burnt)

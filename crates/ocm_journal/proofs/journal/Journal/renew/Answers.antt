@@ -1,8 +1,9 @@
-use Rattle.std.proofs.Common.{◌≡◌, ◌≤◌, ◌<◌, ◌+◌, ◌-◌, ℕ, List, [], ◌∷◌, ◌++◌, length, replicate, refl, sym, subst, ◌∙◌, ap, arith, append_assoc, length-append}
+use Rattle.std.proofs.Common.{inl, ◌≡◌, ◌≤◌, ◌<◌, ◌+◌, ◌-◌, ℕ, List, [], ◌∷◌, ◌++◌, length, replicate, refl, sym, subst, ◌∙◌, ap, arith, append_assoc, length-append}
 use Rattle.ocm_disk.specs.Disk.{Only}
 use Rattle.ocm_journal.proofs.AppendStands.{on_ok, stands_with}
+use Rattle.ocm_journal.proofs.Moving.{still}
 use Rattle.ocm_journal.proofs.RenewStands.{length-renewed, renewal_moments, renewal_image, renewal_after_fault}
-use Rattle.ocm_journal_image.specs.Layout.{HoldsAt, blocks, blocks_size}
+use Rattle.ocm_journal_image.specs.Layout.{HoldsAt, IsImage, blocks, blocks_size}
 use Rattle.ocm_journal.proofs.Shut.{byte_of_other, shut_behind, switch_held}
 use Rattle.ocm_journal.proofs.journal.Journal.renew.Goals as goal
 
@@ -10,6 +11,13 @@ pub returns-in_err-room-clause-memory : goal.returns-in_err-room-clause-memory
 returns-in_err-room-clause-memory g c = λ tells label before s none.
     let t = stands_with g.D.Disk label before c.args.self.now c.room.new.self c.room.ensures.seen (c.room.ensures.crash tells) s in
     record { image = t.0; selector = s.selector; start = t.1; gate = s.gate; durable = t.2 }
+
+pub returns-in_err-room-clause-any_moment : goal.returns-in_err-room-clause-any_moment
+returns-in_err-room-clause-any_moment g c = λ tells label before s.
+    let d = g.D.Disk in
+    let old = c.args.self.now in
+    still d.moment d.left_since old.disk c.room.new.self _ (d.may_leave old.disk) (d.may_leave c.room.new.self) (g.met.D.Disk.only_now old.disk)
+    (λ b left. inl (subst (λ (x : List ℕ). IsImage label old.area old.form before x) (sym (s.durable b left)) s.image)) c.room.ensures.time (c.room.ensures.crash tells)
 
 pub put_behind-requires-clause-end : goal.put_behind-requires-clause-end
 put_behind-requires-clause-end g c =

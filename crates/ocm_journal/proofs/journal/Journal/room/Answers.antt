@@ -1,9 +1,6 @@
 use Rattle.ocm_journal.proofs.AppendStands.{stands_with}
 use Rattle.ocm_journal.proofs.journal.Journal.room.Goals as goal
 
-pub returns-in_err-reserve-clause-stands : goal.returns-in_err-reserve-clause-stands
-returns-in_err-reserve-clause-stands g c = λ tells label records s. record { image = s.image; selector = s.selector; start = s.start; gate = s.gate; durable = s.durable }
-
 pub returns-clause-stands : goal.returns-clause-stands
 returns-clause-stands g c = λ tells label records s.
     let t = stands_with g.D.Disk label records c.args.self.now c.room.new.self c.room.ensures.seen (c.room.ensures.crash tells) s in
