@@ -5,6 +5,7 @@ use Rattle.ocm_disk.specs.Disk.{LeavesOnly}
 use Rattle.ocm_disk.specs.declared.disk.Disk.{Ghosts}
 use Rattle.ocm_entry.specs.declared.entries.Entry.{Entry}
 use Rattle.ocm_journal.proofs.Moving.{weaker}
+use Rattle.ocm_serve_store.specs.Following.{store_of}
 use Rattle.ocm_serve_store.specs.Runs.{LeavesInRun}
 use Rattle.ocm_serve_store.specs.declared.followed.Origin.{Origin}
 use Rattle.ocm_server.specs.Objects.{Shares}
@@ -40,9 +41,9 @@ runs-make-sessions {D} disk C plan area limit before after calls own sides worke
     let history = service.history in
     let size = area_of ran.store in
     let same : terms_of ran.store ≡ terms plan.host size = ap (λ h. terms h size) ran.host_is in
-    let stood = courses-stand disk ran.store s.left.store base [] history (record { stands = s.stands; legal = s.lawful }) s.course in
-    let ground : terms_of s.left.store ≡ terms plan.host size = stood.0 ∙ same in
-    let end : StandsLegally disk s.left.store base history = subst (λ h. StandsLegally disk s.left.store base h) (append-nil history) stood.1 in
+    let stood = courses-stand disk ran.store (store_of s.left) base [] history (record { stands = s.stands; legal = s.lawful }) s.course in
+    let ground : terms_of (store_of s.left) ≡ terms plan.host size = stood.0 ∙ same in
+    let end : StandsLegally disk (store_of s.left) base history = subst (λ h. StandsLegally disk (store_of s.left) base h) (append-nil history) stood.1 in
     let run : HasRun disk plan.host area before after calls = record {
       size = size;
       base = base;
@@ -54,7 +55,7 @@ runs-make-sessions {D} disk C plan area limit before after calls own sides worke
       sized = ran.area_is;
       reads = λ tells.
           subst (λ d. LeavesNext (terms plan.host size) base history None (disk.seen d)) (sym s.back)
-          (subst (λ (t : Terms). LeavesNext t base history None (disk.seen (disk_of s.left.store))) ground (end.stands.reads tells));
+          (subst (λ (t : Terms). LeavesNext t base history None (disk.seen (disk_of (store_of s.left)))) ground (end.stands.reads tells));
       leaves = λ tells c may. subst (λ (t : Terms). LeavesNext t base history None c) ground (end.stands.leaves tells c (subst (λ d. disk.may_leave d c) s.back may));
       any_moment = λ tells.
           weaker disk.moment disk.left_since before after (LeavesInRun disk plan.host area before (terms plan.host size) base history) (LeavesWithin disk plan.host area before size base history)

@@ -9,6 +9,7 @@ use Rattle.ocm_entry.specs.declared.entries.Entry.{Entry}
 use Rattle.ocm_journal.specs.Openings.{Opens, StaysAsItOpens}
 use Rattle.ocm_rules.specs.History.{IsLegal}
 use Rattle.ocm_serve_options.specs.declared.plans.Plan.{Plan}
+use Rattle.ocm_serve_store.specs.Following.{store_of}
 use Rattle.ocm_serve_store.specs.Runs.{KeepsSince, LeavesInRun, Ran}
 use Rattle.ocm_serve_store.specs.declared.followed.Origin.{Origin}
 use Rattle.ocm_server.specs.Objects.{Past}
@@ -43,16 +44,16 @@ ran-was {D} disk plan area limit before after calls own IsEach ran =
     let history = s.service.history in
     let size = area_of ran.store in
     let same : terms_of ran.store ≡ terms plan.host size = ap (λ h. terms h size) ran.host_is in
-    let stood = courses-stand disk ran.store s.left.store base [] history (record { stands = s.stands; legal = s.lawful }) s.course in
-    let ground : terms_of s.left.store ≡ terms plan.host size = stood.0 ∙ same in
-    let end : StandsLegally disk s.left.store base history = subst (λ h. StandsLegally disk s.left.store base h) (append-nil history) stood.1 in
+    let stood = courses-stand disk ran.store (store_of s.left) base [] history (record { stands = s.stands; legal = s.lawful }) s.course in
+    let ground : terms_of (store_of s.left) ≡ terms plan.host size = stood.0 ∙ same in
+    let end : StandsLegally disk (store_of s.left) base history = subst (λ h. StandsLegally disk (store_of s.left) base h) (append-nil history) stood.1 in
     record {
       size = size;
       session = subst (λ (t : Terms). IsLegalUnder t base history) ground end.legal;
       opened = λ tells. (s.is_base tells).1;
       reads = λ tells.
           subst (λ d. LeavesNext (terms plan.host size) base history None (disk.seen d)) (sym s.back)
-          (subst (λ (t : Terms). LeavesNext t base history None (disk.seen (disk_of s.left.store))) ground (end.stands.reads tells));
+          (subst (λ (t : Terms). LeavesNext t base history None (disk.seen (disk_of (store_of s.left)))) ground (end.stands.reads tells));
       leaves = λ tells c may. subst (λ (t : Terms). LeavesNext t base history None c) ground (end.stands.leaves tells c (subst (λ d. disk.may_leave d c) s.back may));
       any_moment = λ tells. subst (λ (t : Terms). LeavesOnly disk.moment disk.left_since before after (LeavesInRun disk plan.host area before t base history)) same (ran.any_moment tells);
       moments = s.service.moments;

@@ -35,6 +35,7 @@ use Rattle.ocm_serve_log.specs.Logs.{IsFront, IsLogOf, capped, line_of, lines_si
 use Rattle.ocm_serve_log.proofs.TrueLines.{lines-true}
 use Rattle.ocm_serve_options.specs.declared.plans.Plan.{Plan}
 use Rattle.ocm_server.specs.Objects.{Past}
+use Rattle.ocm_serve_store.specs.Following.{store_of}
 use Rattle.ocm_serve_store.specs.Runs.{Ran}
 use Rattle.ocm_serve_store.specs.declared.followed.Origin.{Origin}
 use Rattle.ocm_store.specs.Courses.{LeavesAlong}
@@ -233,10 +234,10 @@ module _ {D : Type 0} (disk : Ghosts D) (plan : Plan) (area limit : ℕ) (before
   lines = lines_since plan.host base history
 
   abbrev terms : Terms
-  terms = terms_of run.served.left.store
+  terms = terms_of (store_of run.served.left)
 
   same-terms : terms ≡ terms_of run.store
-  same-terms = (courses-stand disk run.store run.served.left.store base [] history (record { stands = run.served.stands; legal = run.served.lawful }) run.served.course).0
+  same-terms = (courses-stand disk run.store (store_of run.served.left) base [] history (record { stands = run.served.stands; legal = run.served.lawful }) run.served.course).0
 
   same-host : terms.host ≡ plan.host
   same-host = ap (λ (t : Terms). t.host) same-terms ∙ run.host_is

@@ -1,3 +1,4 @@
+mod Changing
 mod Holding
 mod Texts
 mod Told

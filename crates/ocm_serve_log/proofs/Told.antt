@@ -21,7 +21,7 @@ use Rattle.ocm_serve_log.specs.Logs.{Holds, IsLog, IsLogOf, line_at, line_of, li
 use Rattle.ocm_serve_log.specs.Standing.{StandsLogged}
 use Rattle.ocm_serve_log.specs.declared.logs.Log.{Log}
 use Rattle.ocm_server.specs.Objects.{Begins, Past, Service}
-use Rattle.ocm_serve_store.specs.Following.{CameSince, IsLegalSince, StandsSince, origin_of}
+use Rattle.ocm_serve_store.specs.Following.{CameSince, IsLegalSince, StandsSince, origin_of, store_of}
 use Rattle.ocm_dav.specs.declared.configs.Config.{Config}
 use Rattle.ocm_disk.specs.Disk.{LeavesOnly}
 use Rattle.ocm_journal.specs.Openings.{StaysAsItOpens}
@@ -70,13 +70,13 @@ module _ {D T K : Type 0} (disk : Ghosts D) (followed : T → Followed D disk) (
   -- a store with a log that was served, by what is told of it as an object
   pub logged_run : (limit : ℕ) (IsBase : List Entry → Type 0) (store : Store D disk) (begun left : T) (after : D) (c o calls own : ℕ)
       (IsEach : Gate → Known (Origin D disk) → Past → List (List Call) → Type 0) (gate : Gate) (first : Known (Origin D disk)) (bytes : Option (List ℕ)) (count lost : ℕ) (short : Bool)
-      → (followed begun).store ≡ store → (followed begun).born.value ≡ store
+      → store_of (followed begun) ≡ store → (followed begun).born.value ≡ store
       → (c ≡ calls) × (o ≡ own) → Begins limit (origin_of (followed begun)) gate first → IsBase first.base × Stood begun first.base [] × IsLegalSince disk first.terms first.base []
-      → Serviced gate first left calls own (IsEach gate first) → after ≡ disk_of (followed left).store
+      → Serviced gate first left calls own (IsEach gate first) → after ≡ disk_of (store_of (followed left))
       → ((lines : List LogLine) → Holds taken faults (log left) lines → IsLog bytes count lost short lines)
       → (run : WasServed disk limit IsBase store after c o IsEach) × IsLogOf bytes count lost short (host_of store) run.first.base run.service.history
   logged_run limit IsBase store begun left after c o calls own IsEach gate first bytes count lost short is born same begins base service back finish =
-      let host : host_of (followed left).store ≡ host_of store =
+      let host : host_of (store_of (followed left)) ≡ host_of store =
       ap (λ (t : Origin D disk). t.terms.host) (service.same_terms ∙ begins.terms_are) ∙ ap (λ (s : Store D disk). host_of s) is in
       let lines : IsLogOf bytes count lost short (host_of store) first.base service.history =
       subst (λ (h : List ℕ). IsLogOf bytes count lost short h first.base service.history) host (finish _ service.stands_for.1, service.stands_for.2) in
@@ -91,8 +91,8 @@ module _ {D T K : Type 0} (disk : Ghosts D) (followed : T → Followed D disk) (
         stands = subst (λ (s : Store D disk). Stands disk s first.base []) is base.1.0.0;
         lawful = subst (λ (t : Terms). IsLegalUnder t first.base []) (ap (λ (t : Origin D disk). t.terms) begins.terms_are ∙ ap (λ (s : Store D disk). terms_of s) is) base.2;
         service = unlogged gate first left calls own (IsEach gate first) service;
-        course = subst (λ (s : Store D disk). Course disk s service.history (followed left).store) birth service.stands_for.0.1;
-        course_at = subst (λ (s : Store D disk). CourseAt disk s service.history service.moments (followed left).store) birth service.came_by;
+        course = subst (λ (s : Store D disk). Course disk s service.history (store_of (followed left))) birth service.stands_for.0.1;
+        course_at = subst (λ (s : Store D disk). CourseAt disk s service.history service.moments (store_of (followed left))) birth service.came_by;
         back = back;
       } in
       subst (λ (z : ℕ × ℕ). (run : WasServed disk limit IsBase store after z.0 z.1 IsEach) × IsLogOf bytes count lost short (host_of store) run.first.base run.service.history)

@@ -1,5 +1,5 @@
 //! A store with a log, served from its disk to its disk.
-ghost use Rattle.std.specs.Prelude.{◌≡◌, ◌⊎◌, ◌<◌, ◌^◌, ℕ, [], List, length, slice_index_or, false, IfSome};
+ghost use Rattle.std.specs.Prelude.{◌≡◌, ◌⊎◌, ◌<◌, ◌^◌, ℕ, [], List, length, slice_index_or, false, None, IfSome};
 ghost use Rattle.ocm_limits.specs.Limits.{served_disk_bytes};
 ghost use Rattle.ocm_disk.specs.Disk.{LeavesOnly};
 ghost use Rattle.ocm_journal.specs.Openings.{StaysAsItOpens, new_area};
@@ -11,6 +11,7 @@ ghost use Rattle.ocm_store.specs.Stores.{IsLegalUnder, Stands, disk_of, host_of,
 ghost use Rattle.ocm_entry.specs.declared.entries.Entry.{Entry};
 ghost use Rattle.ocm_serve_log.specs.Logs.{Holds, IsLog, IsLogOf};
 ghost use Rattle.ocm_access_log.specs.declared.lines.LogLine.{LogLine};
+ghost use Rattle.ocm_serve_store.specs.Following.{mark_in, store_of};
 ghost use Rattle.ocm_serve_store.specs.Runs.{HasServed, IsCounted, IsDiskFault, IsLoaded, IsSaid, WasServed, IsUnserved, Ran};
 
 use crate::logged::LoggedStore;
@@ -165,8 +166,9 @@ where
 
 /// What is left of a store that was served: its disk, and its log with its last lines written.
 fn run_of<D: Disk, K: LogSink>(served: Served, logged: LoggedStore<D, K>) -> LoggedRun<D, K>
+    requires home { mark_in logged.followed.held ≡ None }
     ensures served { result.served ≡ served }
-    ensures disk { result.disk ≡ disk_of logged.followed.store }
+    ensures disk { result.disk ≡ disk_of (store_of logged.followed) }
     ensures log { (lines : List LogLine) → Holds K.taken K.faults logged.log lines → IsLog (K.taken result.sink) (K.faults result.sink) result.left_out result.out_of_memory lines }
     ensures empty { logged.log.gathered.items ≡ [] → (result.sink ≡ logged.log.sink) × (result.left_out ≡ logged.log.left_out) }
     ensures memory { result.out_of_memory ≡ logged.log.out_of_memory }

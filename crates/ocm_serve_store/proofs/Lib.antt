@@ -1,2 +1,4 @@
-mod Answering
+pub mod Answering
+pub mod Idle
+pub mod Sending
 pub mod Told

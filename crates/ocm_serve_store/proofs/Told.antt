@@ -8,7 +8,7 @@ use Rattle.ocm_journal.proofs.Moving.{joined, weaker}
 use Rattle.ocm_server.specs.Objects.{Begins, Past, Service}
 use Rattle.ocm_server.specs.declared.served.Served.{Served}
 use Rattle.ocm_server.specs.declared.served.Served.TheVariants.{Ended, DoorFault, DiskFault, NotJournal, OtherHost, NoMemory}
-use Rattle.ocm_serve_store.specs.Following.{CameSince, IsLegalSince, StandsSince, origin_of}
+use Rattle.ocm_serve_store.specs.Following.{CameSince, IsLegalSince, StandsSince, mark_in, origin_of, store_of}
 use Rattle.ocm_serve_store.specs.Runs.{HasServed, IsCounted, IsDiskFault, IsLoaded, IsOpenedTo, IsSaid, WasServed, KeepsDone, KeepsSince, LeavesInRun, as_served}
 use Rattle.ocm_serve_store.specs.declared.followed.Followed.{Followed}
 use Rattle.ocm_serve_store.specs.declared.followed.Origin.{Origin}
@@ -28,9 +28,9 @@ use Rattle.ocm_turn.specs.declared.view.Call.{Call}
 -- a store that was followed from its load and served, by what is told of it as an object
 pub served : {D : Type 0} (disk : Ghosts D) (limit : ℕ) (IsBase : List Entry → Type 0) (store : Store D disk) (begun left : Followed D disk) (after : D) (c o calls own : ℕ)
     (IsEach : Gate → Known (Origin D disk) → Past → List (List Call) → Type 0) (gate : Gate) (first : Known (Origin D disk))
-    → begun.store ≡ store → begun.born.value ≡ store
+    → (store_of begun) ≡ store → begun.born.value ≡ store
     → (c ≡ calls) × (o ≡ own) → Begins limit (origin_of begun) gate first → IsBase first.base × StandsSince disk begun first.base [] × IsLegalSince disk first.terms first.base []
-    → Service (λ (f : Followed D disk). origin_of f) (StandsSince disk) (CameSince disk) (IsLegalSince disk) gate first left calls own (IsEach gate first) → after ≡ disk_of left.store
+    → Service (λ (f : Followed D disk). origin_of f) (StandsSince disk) (CameSince disk) (IsLegalSince disk) gate first left calls own (IsEach gate first) → after ≡ disk_of (store_of left)
     → WasServed disk limit IsBase store after c o IsEach
 served {D} disk limit IsBase store begun left after c o calls own IsEach gate first is born same begins base service back = record {
   gate = gate;
@@ -42,8 +42,8 @@ served {D} disk limit IsBase store begun left after c o calls own IsEach gate fi
   stands = subst (λ (s : Store D disk). Stands disk s first.base []) is base.1.0;
   lawful = subst (λ (t : Terms). IsLegalUnder t first.base []) (ap (λ (t : Origin D disk). t.terms) begins.terms_are ∙ ap (λ (s : Store D disk). terms_of s) is) base.2;
   service = told;
-  course = subst (λ (s : Store D disk). Course disk s told.history left.store) birth told.stands_for.1;
-  course_at = subst (λ (s : Store D disk). CourseAt disk s told.history told.moments left.store) birth told.came_by;
+  course = subst (λ (s : Store D disk). Course disk s told.history (store_of left)) birth told.stands_for.1;
+  course_at = subst (λ (s : Store D disk). CourseAt disk s told.history told.moments (store_of left)) birth told.came_by;
   back = back;
 }
   where
@@ -63,16 +63,16 @@ run-leaves {D} disk only_now host area limit IsBase store before after c o IsEac
     let whole : List ℕ → Type 0 = LeavesInRun disk host area before (terms_of store) s.first.base s.service.history in
     let load = weaker disk.moment disk.left_since before (disk_of store) (λ x. disk.may_leave before x ⊎ StaysAsItOpens host area (disk.seen before) x) whole loaded
     (λ x left. ⊎_elim (λ had. inl had) (λ stays. inr (inl stays)) left) in
-    let calls = weaker disk.moment disk.left_since (disk_of store) (disk_of s.left.store) (LeavesAlong (terms_of store) s.first.base [] s.service.history) whole
-    (courses-leave disk only_now tells store s.left.store s.first.base [] s.service.history (record { stands = s.stands; legal = s.lawful }) s.course) (λ x left. inr (inr left)) in
-    subst (λ (d : D). LeavesOnly disk.moment disk.left_since before d whole) (sym s.back) (joined disk.moment disk.left_since before (disk_of store) (disk_of s.left.store) whole load calls)
+    let calls = weaker disk.moment disk.left_since (disk_of store) (disk_of (store_of s.left)) (LeavesAlong (terms_of store) s.first.base [] s.service.history) whole
+    (courses-leave disk only_now tells store (store_of s.left) s.first.base [] s.service.history (record { stands = s.stands; legal = s.lawful }) s.course) (λ x left. inr (inr left)) in
+    subst (λ (d : D). LeavesOnly disk.moment disk.left_since before d whole) (sym s.back) (joined disk.moment disk.left_since before (disk_of store) (disk_of (store_of s.left)) whole load calls)
 
 -- and what was answered is kept
 pub run-keeps : {D : Type 0} (disk : Ghosts D) (only_now : (d : D) (c : List ℕ) → disk.left_since d (disk.moment d) c → disk.may_leave d c) (limit : ℕ) (IsBase : List Entry → Type 0)
     (store : Store D disk) (after : D) (c o : ℕ) (IsEach : Gate → Known (Origin D disk) → Past → List (List Call) → Type 0) (s : WasServed disk limit IsBase store after c o IsEach)
-    (done later : List Entry) → s.service.history ≡ later ++ done → KeepsDone disk store s.first.base done later s.left.store
+    (done later : List Entry) → s.service.history ≡ later ++ done → KeepsDone disk store s.first.base done later (store_of s.left)
 run-keeps disk only_now limit IsBase store after c o IsEach s done later is =
-    courses-keep disk only_now store s.left.store s.first.base done later (record { stands = s.stands; legal = s.lawful }) (subst (λ (h : List Entry). Course disk store h s.left.store) is s.course)
+    courses-keep disk only_now store (store_of s.left) s.first.base done later (record { stands = s.stands; legal = s.lawful }) (subst (λ (h : List Entry). Course disk store h (store_of s.left)) is s.course)
 
 -- since the moment behind each call
 pub run-since : {D : Type 0} (disk : Ghosts D) (only_now : (d : D) (c : List ℕ) → disk.left_since d (disk.moment d) c → disk.may_leave d c) (limit : ℕ) (IsBase : List Entry → Type 0)
@@ -80,8 +80,8 @@ pub run-since : {D : Type 0} (disk : Ghosts D) (only_now : (d : D) (c : List ℕ
     → disk.tells → KeepsSince disk (terms_of store) s.first.base s.service.history s.service.moments after
 run-since {D} disk only_now limit IsBase store after c o IsEach s tells = λ done later at is behind.
     subst (λ (d : D). LeavesSince disk d at (LeavesAlong (terms_of store) s.first.base done later)) (sym s.back)
-    (courses-tie disk only_now tells store s.left.store s.first.base done later s.service.moments at (record { stands = s.stands; legal = s.lawful })
-    (subst (λ (h : List Entry). CourseAt disk store h s.service.moments s.left.store) is s.course_at) behind)
+    (courses-tie disk only_now tells store (store_of s.left) s.first.base done later s.service.moments at (record { stands = s.stands; legal = s.lawful })
+    (subst (λ (h : List Entry). CourseAt disk store h s.service.moments (store_of s.left)) is s.course_at) behind)
 
 -- where the disk was loaded nothing is told of it
 pub loaded-said : (says : Result (List Entry) LoadFault) (r : Served) → IsLoaded r → IsSaid says r

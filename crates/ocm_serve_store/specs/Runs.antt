@@ -7,7 +7,7 @@ use Rattle.ocm_disk.specs.declared.disk.Disk.{Ghosts}
 use Rattle.ocm_entry.specs.declared.entries.Entry.{Entry}
 use Rattle.ocm_journal.specs.Openings.{StaysAsItOpens}
 use Rattle.ocm_serve_options.specs.declared.plans.Plan.{Plan}
-use Rattle.ocm_serve_store.specs.Following.{CameSince, IsLegalSince, StandsSince, origin_of}
+use Rattle.ocm_serve_store.specs.Following.{CameSince, IsLegalSince, StandsSince, origin_of, store_of}
 use Rattle.ocm_serve_store.specs.declared.followed.Followed.{Followed}
 use Rattle.ocm_serve_store.specs.declared.followed.Origin.{Origin}
 use Rattle.ocm_server.specs.Objects.{Begins, Past, Service}
@@ -105,10 +105,10 @@ pub record WasServed {D : Type 0} (disk : Ghosts D) (limit : ℕ) (IsBase : List
   pub stands : Stands disk store first.base []
   pub lawful : IsLegalUnder (terms_of store) first.base []
   pub service : Service (λ (f : Followed D disk). origin_of f) (StandsSince disk) (CameSince disk) (IsLegalSince disk) gate first left calls own (IsEach gate first)
-  pub course : Course disk store service.history left.store
+  pub course : Course disk store service.history (store_of left)
   -- the same, with the moments that stand in what is known of each worker
-  pub course_at : CourseAt disk store service.history service.moments left.store
-  pub back : after ≡ disk_of left.store
+  pub course_at : CourseAt disk store service.history service.moments (store_of left)
+  pub back : after ≡ disk_of (store_of left)
 
 -- a server ran by a plan: it knew of itself what the plan says, and the store of its host was loaded from a disk, and served behind what
 -- the disk opens to, by the calls of its workers alone
@@ -123,7 +123,7 @@ pub record Ran {D : Type 0} (disk : Ghosts D) (plan : Plan) (area limit : ℕ) (
   -- a crash at any moment of the run
   pub any_moment : disk.tells → LeavesOnly disk.moment disk.left_since before after (LeavesInRun disk plan.host area before (terms_of store) served.first.base served.service.history)
   -- what was answered is not lost
-  pub kept : (done later : List Entry) → served.service.history ≡ later ++ done → KeepsDone disk store served.first.base done later served.left.store
+  pub kept : (done later : List Entry) → served.service.history ≡ later ++ done → KeepsDone disk store served.first.base done later (store_of served.left)
   -- since the moment of the disk behind a call a crash leaves what may follow it, or a later call
   pub since : disk.tells → KeepsSince disk (terms_of store) served.first.base served.service.history served.service.moments after
 

@@ -1,19 +1,27 @@
 //! A store that remembers what it was when it was loaded.
-ghost use Rattle.std.specs.Prelude.{◌≡◌};
+ghost use Rattle.std.specs.Prelude.{◌≡◌, None};
+ghost use Rattle.ocm_serve_store.specs.Following.{store_in, mark_in};
 
 use ocm_disk::Disk;
-use ocm_store::{Store, Terms};
+use ocm_store::{Front, Store, Terms};
 use std::snapshot::Snapshot;
+
+/// A store, or its memory alone while its journal is written to elsewhere.
+#[derive(Drop)]
+pub enum StoreOrFront<D: Disk> {
+    Store(Store<D>),
+    Front(Front<D>),
+}
 
 /// A store that remembers, for contracts alone, what it was when it was loaded.
 pub struct Followed<D: Disk> {
-    pub(crate) store: Store<D>,
+    pub(crate) held: StoreOrFront<D>,
     pub(crate) born: Snapshot<Store<D>>,
 }
 
 impl<D: Disk + Drop> Drop for Followed<D> {
     fn drop(self) {
-        let Followed { store: _, born: _ } = self;
+        let Followed { held: _, born: _ } = self;
     }
 }
 
@@ -32,25 +40,25 @@ impl<D: Disk + Drop> Drop for Origin<D> {
 impl<D: Disk> Followed<D> {
     /// A store that is followed from now on.
     pub fn new(store: Store<D>) -> Followed<D>
-        ensures store { result.store ≡ store }
+        ensures held { result.held ≡ StoreOrFront.Store store }
         ensures born { result.born.value ≡ store }
     {
         let born = Snapshot::of(&store);
-        Followed { store, born }
+        Followed {
+            held: StoreOrFront::Store(store),
+            born,
+        }
     }
 
-    /// The store.
-    pub fn store(&self) -> &Store<D>
-        ensures { result.now ≡ self.now.store }
-    {
-        &self.store
-    }
-
-    /// The store alone.
+    /// The store alone. Its journal is not away.
     pub fn into_store(self) -> Store<D>
-        ensures { result ≡ self.store }
+        requires { mark_in self.held ≡ None }
+        ensures { result ≡ store_in self.held }
     {
-        let Followed { store, born: _ } = self;
-        store
+        let Followed { held, born: _ } = self;
+        match held {
+            StoreOrFront::Store(store) => store,
+            StoreOrFront::Front(_) => unreachable!(),
+        }
     }
 }

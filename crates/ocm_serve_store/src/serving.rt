@@ -168,8 +168,8 @@ pub fn ended<T: Dated, L: Door, N: Dial, K: Clock>(
     ensures counts { (c o : ℕ) → HasServed result c o → (c ≡ calls) × (o ≡ own) }
     ensures loaded { IsLoaded result }
     ensures served { IsUnserved result → ⊥ }
-    ensures ended { (c o : ℕ) → result ≡ Served.Ended c o → (i : ℕ) (d : Worker T L N K T.Terms L.Conn) → i < length workers.now → (slice_index_or workers.now i d).end ≡ rounds.Ended }
-    ensures fault { (c o : ℕ) → result ≡ Served.DoorFault c o → (i : ℕ) × (i < length workers.now) × ((d : Worker T L N K T.Terms L.Conn) → (slice_index_or workers.now i d).end ≡ rounds.DoorFault) }
+    ensures ended { (c o : ℕ) → result ≡ Served.Ended c o → (i : ℕ) (d : Worker T L N K T.Work T.Mark T.Terms L.Conn) → i < length workers.now → (slice_index_or workers.now i d).end ≡ rounds.Ended }
+    ensures fault { (c o : ℕ) → result ≡ Served.DoorFault c o → (i : ℕ) × (i < length workers.now) × ((d : Worker T L N K T.Work T.Mark T.Terms L.Conn) → (slice_index_or workers.now i d).end ≡ rounds.DoorFault) }
 {
     for k in 0..workers.len() {
         if matches!(workers[k].end, Rounds::DoorFault) {

@@ -1,6 +1,6 @@
 //! An object served, from its first call to its last.
 
-ghost use Rattle.std.specs.Prelude.{◌≡◌, ◌≤◌, ◌<◌, ◌^◌, ℕ, List, [], length, slice_index_or, IfOk, IfErr};
+ghost use Rattle.std.specs.Prelude.{◌≡◌, ◌≤◌, ◌<◌, ◌^◌, ℕ, List, [], None, length, slice_index_or, IfOk, IfErr};
 ghost use Rattle.ocm_entry.specs.declared.entries.Entry.{Entry};
 ghost use Rattle.ocm_turn.specs.Passes.{Gate, Known, BelongsTo, all_parts};
 ghost use Rattle.ocm_server.specs.Objects.{Begins, EachShift, Service};
@@ -49,16 +49,19 @@ fn serve_through<
 ) -> Finished<T>
 where
     T::Terms: Send,
+    T::Mark: Send,
     L::Conn: Send,
     requires own { BelongsTo node pass }
     requires uncalled { pass.mine ≡ [] }
     requires whole { pass.parts ≡ all_parts }
     requires some { 0 < length workers.old }
+    // The object comes back when it awaits no work.
+    ensures home { T.awaited result.value ≡ None }
     ensures service { Service T.terms T.stands T.came T.legal node pass result.value result.calls result.own
         (λ past all. EachShift L.Conn.sides config.now draw_key workers.old workers.new
         (λ w. work (L.told w.door) (L.faults w.door) (N.exchanges w.dial) (N.faults w.dial) (N.delivers w.dial) w.draw (K.given w.clock) w.pass w.end) node pass past all) }
-    ensures ended { result.rounds ≡ Rounds.Ended → (i : ℕ) (d : Worker T L N K T.Terms L.Conn) → i < length workers.new → (slice_index_or workers.new i d).end ≡ Rounds.Ended }
-    ensures fault { result.rounds ≡ Rounds.DoorFault → (i : ℕ) × (i < length workers.new) × ((d : Worker T L N K T.Terms L.Conn) → (slice_index_or workers.new i d).end ≡ Rounds.DoorFault) }
+    ensures ended { result.rounds ≡ Rounds.Ended → (i : ℕ) (d : Worker T L N K T.Work T.Mark T.Terms L.Conn) → i < length workers.new → (slice_index_or workers.new i d).end ≡ Rounds.Ended }
+    ensures fault { result.rounds ≡ Rounds.DoorFault → (i : ℕ) × (i < length workers.new) × ((d : Worker T L N K T.Work T.Mark T.Terms L.Conn) → (slice_index_or workers.new i d).end ≡ Rounds.DoorFault) }
 {
     deal(&node, &mut pass, workers, draw_key);
     let rounds = serve_all(rt, alloc, config, &node, workers);
@@ -95,18 +98,21 @@ pub fn serve_object<
 ) -> Result<Finished<T>, T>
 where
     T::Terms: Send,
+    T::Mark: Send,
     L::Conn: Send,
     requires limit { (1 ≤ limit) × (limit ≤ 2 ^ 63) }
     requires value { (base : List Entry) × J.known base × T.stands value base [] × T.legal (T.terms value) base [] }
+    requires home { T.awaited value ≡ None }
     requires some { 0 < length workers.old }
+    ensures home { IfOk result (λ f. T.awaited f.value ≡ None) }
     ensures served { IfOk result (λ f. (gate : Gate) × (first : Known T.Terms) × Begins limit (T.terms value) gate first
         × (J.known first.base × T.stands value first.base [] × T.legal first.terms first.base [])
         × Service T.terms T.stands T.came T.legal gate first f.value f.calls f.own
         (λ past all. EachShift L.Conn.sides config.now draw_key workers.old workers.new
         (λ w. work (L.told w.door) (L.faults w.door) (N.exchanges w.dial) (N.faults w.dial) (N.delivers w.dial) w.draw (K.given w.clock) w.pass w.end) gate first past all)) }
     // How the workers ended: a fault of a door where one of them had it.
-    ensures ended { IfOk result (λ f. f.rounds ≡ Rounds.Ended → (i : ℕ) (d : Worker T L N K T.Terms L.Conn) → i < length workers.new → (slice_index_or workers.new i d).end ≡ Rounds.Ended) }
-    ensures fault { IfOk result (λ f. f.rounds ≡ Rounds.DoorFault → (i : ℕ) × (i < length workers.new) × ((d : Worker T L N K T.Terms L.Conn) → (slice_index_or workers.new i d).end ≡ Rounds.DoorFault)) }
+    ensures ended { IfOk result (λ f. f.rounds ≡ Rounds.Ended → (i : ℕ) (d : Worker T L N K T.Work T.Mark T.Terms L.Conn) → i < length workers.new → (slice_index_or workers.new i d).end ≡ Rounds.Ended) }
+    ensures fault { IfOk result (λ f. f.rounds ≡ Rounds.DoorFault → (i : ℕ) × (i < length workers.new) × ((d : Worker T L N K T.Work T.Mark T.Terms L.Conn) → (slice_index_or workers.new i d).end ≡ Rounds.DoorFault)) }
     ensures same { IfErr result (λ v. v ≡ value) }
     ensures unasked { IfErr result (λ _. workers.new ≡ workers.old) }
 {

@@ -41,7 +41,7 @@ pub(crate) fn deal<T: Dated, L: Door, N: Dial, K: Clock>(
     requires whole { pass.old.parts ≡ all_parts }
     ensures same { pass.new ≡ record pass.old { parts = pass.new.parts } }
     ensures parts { pass.new.parts + length workers.old ≡ all_parts }
-    ensures dealt { (i : ℕ) (d : Worker T L N K T.Terms L.Conn) → i < length workers.old →
+    ensures dealt { (i : ℕ) (d : Worker T L N K T.Work T.Mark T.Terms L.Conn) → i < length workers.old →
         slice_index_or workers.new i d ≡ record (slice_index_or workers.old i d) { draw = draw_at draw_key i; pass = Some (beginner pass.old) } }
 {
     for k in 0..workers.len() {
@@ -83,10 +83,10 @@ pub(crate) fn gather<T: Dated, L: Door, N: Dial, K: Clock>(
     ensures own { BelongsTo node.now pass.new }
     ensures ground { SameGround pass.old pass.new }
     ensures mine { pass.new.mine ≡ gathered pass.old.mine (map (λ w. mine_of w.pass) workers.old) }
-    ensures drawn { (i : ℕ) (d : Worker T L N K T.Terms L.Conn) → i < length workers.old → drawn_of (slice_index_or workers.old i d).pass ≤ pass.new.drawn }
+    ensures drawn { (i : ℕ) (d : Worker T L N K T.Work T.Mark T.Terms L.Conn) → i < length workers.old → drawn_of (slice_index_or workers.old i d).pass ≤ pass.new.drawn }
     ensures parts { pass.new.parts ≡ pass.old.parts + length workers.old }
-    ensures knows { (i : ℕ) (d : Worker T L N K T.Terms L.Conn) → i < length workers.old → Knows (slice_index_or workers.old i d).pass (past_of pass.new) }
-    ensures taken { (i : ℕ) (d : Worker T L N K T.Terms L.Conn) → i < length workers.old →
+    ensures knows { (i : ℕ) (d : Worker T L N K T.Work T.Mark T.Terms L.Conn) → i < length workers.old → Knows (slice_index_or workers.old i d).pass (past_of pass.new) }
+    ensures taken { (i : ℕ) (d : Worker T L N K T.Work T.Mark T.Terms L.Conn) → i < length workers.old →
         slice_index_or workers.new i d ≡ record (slice_index_or workers.old i d) { pass = None } }
 {
     for k in 0..workers.len() {

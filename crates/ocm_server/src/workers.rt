@@ -183,8 +183,8 @@ pub fn serve_worker<T: Dated, L: Door, N: Dial, K: Clock, R: Wait>(
 
 /// How workers ended: a fault of a door where one of them had it.
 fn rounds_of<T: Dated, L: Door, N: Dial, K: Clock>(workers: &[Worker<T, L, N, K>]) -> Rounds
-    ensures ended { result ≡ Rounds.Ended → (i : ℕ) (d : Worker T L N K T.Terms L.Conn) → i < length workers.now → (slice_index_or workers.now i d).end ≡ Rounds.Ended }
-    ensures fault { result ≡ Rounds.DoorFault → (i : ℕ) × (i < length workers.now) × ((d : Worker T L N K T.Terms L.Conn) → (slice_index_or workers.now i d).end ≡ Rounds.DoorFault) }
+    ensures ended { result ≡ Rounds.Ended → (i : ℕ) (d : Worker T L N K T.Work T.Mark T.Terms L.Conn) → i < length workers.now → (slice_index_or workers.now i d).end ≡ Rounds.Ended }
+    ensures fault { result ≡ Rounds.DoorFault → (i : ℕ) × (i < length workers.now) × ((d : Worker T L N K T.Work T.Mark T.Terms L.Conn) → (slice_index_or workers.now i d).end ≡ Rounds.DoorFault) }
 {
     for k in 0..workers.len() {
         if matches!(workers[k].end, Rounds::DoorFault) {
@@ -211,16 +211,17 @@ pub fn serve_all<
 ) -> Rounds
 where
     T::Terms: Send,
+    T::Mark: Send,
     L::Conn: Send,
     requires some { 0 < length workers.old }
     requires own { All (λ w. Owns node.now w.pass) workers.old }
-    ensures each { (i : ℕ) (d : Worker T L N K T.Terms L.Conn) → i < length workers.old →
+    ensures each { (i : ℕ) (d : Worker T L N K T.Work T.Mark T.Terms L.Conn) → i < length workers.old →
         let a = slice_index_or workers.old i d in let b = slice_index_or workers.new i d in
         Worked L.Conn.sides config.now node.now
         (work (L.told a.door) (L.faults a.door) (N.exchanges a.dial) (N.faults a.dial) (N.delivers a.dial) a.draw (K.given a.clock) a.pass a.end)
         (work (L.told b.door) (L.faults b.door) (N.exchanges b.dial) (N.faults b.dial) (N.delivers b.dial) b.draw (K.given b.clock) b.pass b.end) }
-    ensures ended { result ≡ Rounds.Ended → (i : ℕ) (d : Worker T L N K T.Terms L.Conn) → i < length workers.new → (slice_index_or workers.new i d).end ≡ Rounds.Ended }
-    ensures fault { result ≡ Rounds.DoorFault → (i : ℕ) × (i < length workers.new) × ((d : Worker T L N K T.Terms L.Conn) → (slice_index_or workers.new i d).end ≡ Rounds.DoorFault) }
+    ensures ended { result ≡ Rounds.Ended → (i : ℕ) (d : Worker T L N K T.Work T.Mark T.Terms L.Conn) → i < length workers.new → (slice_index_or workers.new i d).end ≡ Rounds.Ended }
+    ensures fault { result ≡ Rounds.DoorFault → (i : ℕ) × (i < length workers.new) × ((d : Worker T L N K T.Work T.Mark T.Terms L.Conn) → (slice_index_or workers.new i d).end ≡ Rounds.DoorFault) }
 {
     let count = workers.len();
     for_each_mut(

@@ -5,3 +5,6 @@ pub mod Courses
 pub mod Faults
 pub mod Fitting
 pub mod Growing
+pub mod Appends
+pub mod Ready
+pub mod Parting

@@ -1,5 +1,5 @@
 //! How a store answers an ask: it is planned, then written, and then made.
-ghost use Rattle.std.specs.Prelude.{◌≡◌, ◌<◌, ◌≤◌, ◌+◌, ◌∷◌, ◌++◌, ℕ, List, None, length, true, false, Some, IsTrue, IfOk, OnOk};
+ghost use Rattle.std.specs.Prelude.{◌≡◌, ◌<◌, ◌≤◌, ◌+◌, ◌∷◌, ◌++◌, ℕ, List, None, length, true, false, Some, IsTrue, IfErr, IfOk, OnOk};
 ghost use Rattle.ocm_base.specs.Outside.{raised};
 ghost use Rattle.ocm_disk.specs.Disk.{LeavesOnly};
 ghost use Rattle.ocm_entry.specs.declared.asks.Ask.{Ask};
@@ -11,12 +11,12 @@ ghost use Rattle.ocm_plan.specs.Plans.{Plans};
 ghost use Rattle.ocm_rules.specs.History.{is_failure};
 ghost use Rattle.ocm_law_sessions.specs.Sessions.{count_of, would_change};
 ghost use Rattle.ocm_tables.specs.Changes.{is_kept};
-ghost use Rattle.ocm_store.specs.Faults.{count_told, reply_told};
 
+use crate::ready::ReadyChange;
+use crate::settling::settle;
 use crate::stores::Store;
 use crate::terms::Terms;
-use crate::write_faults::WriteFault;
-use crate::writing::write_change;
+use crate::writing::append_once;
 use ocm_base::NoMemory;
 use ocm_core::Planned;
 use ocm_disk::Disk;
@@ -76,6 +76,7 @@ impl<D: Disk> Store<D> {
     ghost use Rattle.ocm_store.specs.Acts.{Acts, SpendsNone};
     ghost use Rattle.ocm_history.specs.Changes.{IsChange};
     ghost use Rattle.ocm_history.specs.Histories.{HasPlace, IsOf, SameMemory};
+    ghost use Rattle.ocm_store.specs.Ready.{IsDrafted, IsPrepared, IsReady, IsRefused};
     ghost use Rattle.ocm_store.specs.Stores.{disk_of, fault_of};
 
     /// Answers an ask.
@@ -83,43 +84,63 @@ impl<D: Disk> Store<D> {
         requires { IsTrue (is_proper ask.now) }
         ensures { Acts ⟦<D as Disk>⟧ self.old self.new ask.now result }
     {
-        match self.history.core.answer(ask) {
-            Ok(planned) => self.answer(ask, planned),
-            Err(NoMemory) => Reply::NoMemory,
+        match self.ready_for(ask) {
+            Ok(change) => self.write_down(change),
+            Err(reply) => reply,
         }
     }
 
-    /// Gives the reply that was planned, where nothing changes or the change is made.
-    fn answer(&mut self, ask: &Ask, planned: Planned) -> Reply
+    /// Gets a change ready that an ask makes. Answers what changes nothing, and what can't be made.
+    pub(crate) fn ready_for(&mut self, ask: &Ask) -> Result<ReadyChange, Reply>
+        requires { IsTrue (is_proper ask.now) }
+        ensures replied { IfErr result (λ reply. Acts ⟦<D as Disk>⟧ self.old self.new ask.now reply) }
+        ensures refused { IfErr result (λ reply. IsRefused ⟦<D as Disk>⟧ self.old ask.now reply) }
+        ensures prepared { OnOk result (IsPrepared ⟦<D as Disk>⟧ self.old self.new ask.now) }
+        ensures ready { IfOk result (λ change. IsReady ⟦<D as Disk>⟧ self.new ask.now change) }
+    {
+        match self.history.core.answer(ask) {
+            Ok(planned) => self.answer(ask, planned),
+            Err(NoMemory) => Err(Reply::NoMemory),
+        }
+    }
+
+    /// Gives the reply that was planned, where nothing changes, or the change.
+    fn answer(&mut self, ask: &Ask, planned: Planned) -> Result<ReadyChange, Reply>
         requires proper { IsTrue (is_proper ask.now) }
         requires plans { Plans self.old.history.core.state ask.now planned }
-        ensures { Acts ⟦<D as Disk>⟧ self.old self.new ask.now result }
+        ensures replied { IfErr result (λ reply. Acts ⟦<D as Disk>⟧ self.old self.new ask.now reply) }
+        ensures refused { IfErr result (λ reply. IsRefused ⟦<D as Disk>⟧ self.old ask.now reply) }
+        ensures prepared { OnOk result (IsPrepared ⟦<D as Disk>⟧ self.old self.new ask.now) }
+        ensures ready { IfOk result (λ change. IsReady ⟦<D as Disk>⟧ self.new ask.now change) }
     {
         if !planned.changes() {
-            return planned.into_reply();
+            return Err(planned.into_reply());
         }
         match self.fault {
             Some(count) => {
                 let_go(planned);
-                Reply::Stopped { count }
+                Err(Reply::Stopped { count })
             }
             None => self.change(ask, planned),
         }
     }
 
-    /// Makes a change, where it can be written.
-    fn change(&mut self, ask: &Ask, planned: Planned) -> Reply
+    /// Gets a change ready, where there is memory and room for it.
+    fn change(&mut self, ask: &Ask, planned: Planned) -> Result<ReadyChange, Reply>
         requires proper { IsTrue (is_proper ask.now) }
         requires plans { Plans self.old.history.core.state ask.now planned }
         requires changes { is_kept planned.change ≡ true }
         requires goes { fault_of self.old ≡ None }
-        ensures { Acts ⟦<D as Disk>⟧ self.old self.new ask.now result }
+        ensures replied { IfErr result (λ reply. Acts ⟦<D as Disk>⟧ self.old self.new ask.now reply) }
+        ensures refused { IfErr result (λ reply. is_failure reply ≡ true) }
+        ensures prepared { OnOk result (IsPrepared ⟦<D as Disk>⟧ self.old self.new ask.now) }
+        ensures ready { IfOk result (λ change. IsReady ⟦<D as Disk>⟧ self.new ask.now change) }
     {
         match self.prepare(ask, &planned) {
-            Ok(draft) => self.write_down(planned, draft),
+            Ok(draft) => self.measure(planned, draft),
             Err(NoMemory) => {
                 let_go(planned);
-                Reply::NoMemory
+                Err(Reply::NoMemory)
             }
         }
     }
@@ -148,49 +169,40 @@ impl<D: Disk> Store<D> {
         Ok(draft)
     }
 
-    /// Writes a change that was drafted, and makes it.
-    fn write_down(&mut self, planned: Planned, draft: Draft) -> Reply
-        requires planned { IsPlanned self.old.history.core.state planned }
-        requires place { HasPlace self.old.history planned }
-        requires room { journals.HasRoom ⟦<D as Disk>⟧ self.old.journal (length draft.written) }
-        requires length { (1 ≤ length draft.written) × (length draft.written ≤ 2097152) }
-        requires goes { fault_of self.old ≡ None }
-        ensures { (ask : Ask) → ((g : List Entry) → IsOf self.old.history g → IsChange self.old.history g ask planned (journals.form_of self.old.journal) draft) → Acts ⟦<D as Disk>⟧ self.old self.new ask result }
+    /// Counts how many bytes of an area are taken with a change that was drafted. Answers it where that is too much.
+    fn measure(&self, planned: Planned, draft: Draft) -> Result<ReadyChange, Reply>
+        requires planned { IsPlanned self.now.history.core.state planned }
+        requires few { length self.now.history.records.items < 18446744073709551615 }
+        requires goes { fault_of self.now ≡ None }
+        ensures full { IfErr result (λ reply. (ask : Ask) → IsDrafted ⟦<D as Disk>⟧ self.now ask planned draft → Acts ⟦<D as Disk>⟧ self.now self.now ask reply) }
+        ensures refused { IfErr result (λ reply. is_failure reply ≡ true) }
+        ensures ready { IfOk result (λ change. (ask : Ask) → IsDrafted ⟦<D as Disk>⟧ self.now ask planned draft → IsReady ⟦<D as Disk>⟧ self.now ask change) }
     {
         let area = self.journal.area();
         let size = self.history.size_with(area, &planned, &draft);
         if size.saturating_add(draft.newest.rest_size()) > area {
             let_go(planned);
-            return Reply::JournalFull;
+            return Err(Reply::JournalFull);
         }
-        match write_change(&mut self.journal, &self.history, &planned, &draft) {
-            Ok(()) => self.history.make(planned, draft.newest, size),
-            Err(fault) => {
-                self.fault = told_count(fault);
-                let_go(planned);
-                told_reply(fault)
-            }
-        }
+        Ok(ReadyChange {
+            planned,
+            draft,
+            size,
+        })
     }
-}
 
-/// The count of the fault of the disk that is told. None where the disk did not fail.
-fn told_count(fault: WriteFault) -> Option<u64>
-    ensures { result ≡ count_told fault }
-{
-    match fault {
-        WriteFault::DiskFault(count) => Some(count),
-        WriteFault::Full | WriteFault::NoMemory => None,
-    }
-}
-
-/// What is told of a change that was not written.
-fn told_reply(fault: WriteFault) -> Reply
-    ensures { result ≡ reply_told fault }
-{
-    match fault {
-        WriteFault::Full => Reply::JournalFull,
-        WriteFault::DiskFault(count) => Reply::DiskFault { count },
-        WriteFault::NoMemory => Reply::NoMemory,
+    /// Writes a change for which all is ready, and makes it.
+    fn write_down(&mut self, change: ReadyChange) -> Reply
+        requires planned { IsPlanned self.old.history.core.state change.planned }
+        requires place { HasPlace self.old.history change.planned }
+        requires room { journals.HasRoom ⟦<D as Disk>⟧ self.old.journal (length change.draft.written) }
+        requires length { (1 ≤ length change.draft.written) × (length change.draft.written ≤ 2097152) }
+        requires goes { fault_of self.old ≡ None }
+        ensures { (ask : Ask) → IsReady ⟦<D as Disk>⟧ self.old ask change → Acts ⟦<D as Disk>⟧ self.old self.new ask result }
+    {
+        let appended = append_once(&mut self.journal, &change.draft, None);
+        let (reply, fault) = settle(&mut self.history, &mut self.journal, change, appended);
+        self.fault = fault;
+        reply
     }
 }

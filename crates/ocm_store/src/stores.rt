@@ -38,4 +38,17 @@ impl<D: Disk> Store<D> {
         } = self;
         journal
     }
+
+    // The memory and the journal.
+    pub(crate) fn into_both(self) -> (History, Journal<D>)
+        ensures history { result.0 ≡ self.history }
+        ensures journal { result.1 ≡ self.journal }
+    {
+        let Store {
+            history,
+            journal,
+            fault: _,
+        } = self;
+        (history, journal)
+    }
 }

@@ -6,7 +6,7 @@ use Rattle.ocm_entry.specs.declared.entries.Entry.{Entry}
 use Rattle.ocm_turn.specs.declared.view.Call.{Call}
 use Rattle.ocm_turn.specs.Calls.{IsOlderPart, entry_at, Each, StandIn, InOrder, Disjoint, placed, merged, longer, shorter, moments_of_longer, moments_of_shorter}
 
-none_some : {A : Type 0} → (a : A) → None ≡ Some a → ⊥
+pub none_some : {A : Type 0} → (a : A) → None ≡ Some a → ⊥
 none_some {A} a e = subst (λ (o : Option A). elim o as (λ _. Type 0) [ None ↦ Unit {0} | Some _ ↦ ⊥ ]) e tt
 
 -- a place at which an entry stands lies in the history

@@ -10,24 +10,26 @@ use Rattle.atomic_table.specs.Table.{Joins}
 use Rattle.atomic_table.proofs.Lists.{at_set, set_else}
 use Rattle.ocm_entry.specs.declared.entries.Entry.{Entry}
 use Rattle.ocm_turn.specs.declared.view.Call.{Call}
+use Rattle.ocm_turn.specs.declared.behind.Behind.{Behind}
 use Rattle.ocm_turn.specs.declared.view.View.{View}
 use Rattle.ocm_turn.specs.declared.view.Stage.TheVariants.{Named}
 use Rattle.ocm_turn.specs.Calls.{IsOlderPart, Each, Disjoint, entry_at}
-use Rattle.ocm_turn.specs.Rule.{spent_view, IsIdle, Fits, Sees, EachView, SomeView, total, calls_of, parts_of, HasPart, Tally, Rule, Holds}
+use Rattle.ocm_turn.specs.Rule.{spent_view, IsIdle, Fits, Sees, EachView, SomeView, total, calls_of, parts_of, HasPart, Tally, StandsBehind, Rule, Holds}
 use Rattle.ocm_turn.specs.Steps.{joined}
 use Rattle.ocm_turn.proofs.CallLemmas.{older_self, stand_older, shorter_longer, shorter_longer_moments, left_older, right_older, longer_either, longer_left, longer_right, each_merged, in_order_merged, disjoint_none, length_merged}
 use Rattle.ocm_turn.proofs.ViewLemmas.{set_swap, here_again, spent_new, spent_named, no_ticket, not_both, some_set, each_set, one_hand_set, apart_set}
+use Rattle.ocm_turn.proofs.HeldLemmas.{held_set}
 use Rattle.ocm_turn.proofs.RuleLemmas.{kept_at}
 use Rattle.ocm_turn.proofs.TallyLemmas.{total_set}
 
-module _ {T G : Type 0} (terms_of : T → G) (stands : T → List Entry → List Entry → List ℕ → Type 0) (legal : G → List Entry → List Entry → Type 0) (limit : ℕ) where
-  module _ (terms : G) (base history : List Entry) (moments : List ℕ) (next : ℕ) (homes : List (home.Option (Option T))) (views : List (View G)) (id other : ℕ) (v w : View G)
-      (h : Rule terms_of stands legal limit terms base history moments next homes views) (at : Sees views id v) (at2 : Sees views other w) (differ : other ≢ id) (quiet : IsIdle v) (idle : IsIdle w) where
-    abbrev both : View G
+module _ {T G M : Type 0} (terms_of : T → G) (stands : T → List Entry → List Entry → List ℕ → Type 0) (legal : G → List Entry → List Entry → Type 0) (awaited_of : T → Option M) (limit : ℕ) where
+  module _ (terms : G) (base history : List Entry) (moments : List ℕ) (awaited : Option M) (over next : ℕ) (homes : List (home.Option (Option (Behind T)))) (views : List (View G M)) (id other : ℕ) (v w : View G M)
+      (h : Rule terms_of stands legal awaited_of limit terms base history moments awaited over next homes views) (at : Sees views id v) (at2 : Sees views other w) (differ : other ≢ id) (quiet : IsIdle v) (idle : IsIdle w) where
+    abbrev both : View G M
     both = joined v w
 
-    abbrev F : View G → Type 0
-    F = Fits limit terms base history moments next
+    abbrev F : View G M → Type 0
+    F = Fits limit terms base history moments awaited over next
 
     fits_spent : F spent_view
     fits_spent = record {
@@ -76,7 +78,7 @@ module _ {T G : Type 0} (terms_of : T → G) (stands : T → List Entry → List
           spent = λ other. absurd (other quiet.2);
         }
 
-    abbrev views1 : List (View G)
+    abbrev views1 : List (View G M)
     views1 = set views other spent_view
 
     at1 : Sees views1 id v
@@ -89,17 +91,19 @@ module _ {T G : Type 0} (terms_of : T → G) (stands : T → List Entry → List
         let here : Sees (set views1 id both) id both = here_again views1 id v both at1 in
         dite (ℕ_discrete s.0 id)
         (λ same. let one : s.1 ≡ v = some-injective s.1 v (sym s.2 ∙ (ap (get_elem? views) same ∙ at)) in
-        (id, both, here, (quiet.2, longer_left v.seen w.seen history b.seen (sym (ap (λ (y : View G). y.seen) one) ∙ s.3.1))))
+        (id, both, here, (quiet.2, longer_left v.seen w.seen history b.seen (sym (ap (λ (y : View G M). y.seen) one) ∙ s.3.1))))
         (λ not_id. dite (ℕ_discrete s.0 other)
         (λ same. let one : s.1 ≡ w = some-injective s.1 w (sym s.2 ∙ (ap (get_elem? views) same ∙ at2)) in
-        (id, both, here, (quiet.2, longer_right v.seen w.seen history a.seen (sym (ap (λ (y : View G). y.seen) one) ∙ s.3.1))))
+        (id, both, here, (quiet.2, longer_right v.seen w.seen history a.seen (sym (ap (λ (y : View G M). y.seen) one) ∙ s.3.1))))
         (λ not_other. (s.0, s.1, set_else views1 id s.0 both not_id ∙ (set_else views other s.0 spent_view not_other ∙ s.2), s.3)))
 
-    into_one : Rule terms_of stands legal limit terms base history moments next homes (set views1 id both)
+    into_one : Rule terms_of stands legal awaited_of limit terms base history moments awaited over next homes (set views1 id both)
     into_one = record {
       order = h.order;
+      tickets = h.tickets;
       paired = h.paired;
       bounded = h.bounded;
+      room = h.room;
       lawful = h.lawful;
       each = each_set views1 id v both at1 F F (λ j u _ _ f. f) fits_both (each_set views other w spent_view at2 F F (λ j u _ _ f. f) fits_spent h.each);
       waiting = λ t low high. some_set views1 id v both at1 (λ u. u.ticket ≡ Some t) (λ e. e)
@@ -108,19 +112,19 @@ module _ {T G : Type 0} (terms_of : T → G) (stands : T → List Entry → List
           (λ t j u has _ _ _. no_ticket t (sym quiet.0 ∙ has));
       apart = apart_set views1 id v both at1 (apart_set views other w spent_view at2 h.apart (λ j u _ _. tt))
           (λ j u not_id at'. ⊎_elim
-          (λ (m : (j ≡ other) × (spent_view ≡ u)). subst (λ (y : View G). Disjoint both.mine y.mine) m.1 (disjoint_none both.mine))
+          (λ (m : (j ≡ other) × (spent_view ≡ u)). subst (λ (y : View G M). Disjoint both.mine y.mine) m.1 (disjoint_none both.mine))
           (λ (m : (j ≢ other) × Sees views j u). each_merged (λ (c : Call). Each (λ (d : Call). c.place ≢ d.place) u.mine) v.mine w.mine
           (h.apart id j v u (λ e. not_id (sym e)) at m.1) (h.apart other j w u (λ e. m.0 (sym e)) at2 m.1)) (at_set views other j spent_view u at'));
       told = told_both h.told;
+      held = held_set views1 id v both at1 awaited refl (held_set views other w spent_view at2 awaited (sym idle.3) h.held);
       at_home = ⊎_elim
-          (λ (m : (x : T) × (homes ≡ home.some (Some x) ∷ []) × (terms_of x ≡ terms) × stands x base history moments × EachView views (λ u. u.turn ≡ false)).
+          (λ (m : (behind : Behind T) × (homes ≡ home.some (Some behind) ∷ []) × StandsBehind terms_of stands awaited_of terms base history moments awaited behind × EachView views (λ u. u.turn ≡ false)).
           inl (
             m.0,
             m.1,
             m.2,
-            m.3,
             each_set views1 id v both at1 (λ u. u.turn ≡ false) (λ u. u.turn ≡ false) (λ j u _ _ f. f) quiet.1
-                (each_set views other w spent_view at2 (λ u. u.turn ≡ false) (λ u. u.turn ≡ false) (λ j u _ _ f. f) refl m.4),
+                (each_set views other w spent_view at2 (λ u. u.turn ≡ false) (λ u. u.turn ≡ false) (λ j u _ _ f. f) refl m.3),
           ))
           (λ (m : (homes ≡ home.none ∷ []) × SomeView views (λ u. u.turn ≡ true)).
           inr (m.0, some_set views1 id v both at1 (λ u. u.turn ≡ true) (λ e. e) (some_set views other w spent_view at2 (λ u. u.turn ≡ true) (λ e. absurd (not_both (sym idle.1 ∙ e))) m.1))) h.at_home;
@@ -145,20 +149,22 @@ module _ {T G : Type 0} (terms_of : T → G) (stands : T → List Entry → List
               (each_set views other w spent_view at2 HasPart HasPart (λ j u _ _ f. f) (λ e. absurd (spent_named e)) old);
         }
 
-  pub joins_keep : (value : T) (id other : ℕ) (v w : View G) → IsIdle v → IsIdle w → Joins (Holds terms_of stands legal limit value) id v other w (joined v w) spent_view
+  pub joins_keep : (value : T) (id other : ℕ) (v w : View G M) → IsIdle v → IsIdle w → Joins (Holds terms_of stands legal awaited_of limit value) id v other w (joined v w) spent_view
   joins_keep value id other v w quiet idle s given at apart at' =
       let terms : G = terms_of value in
-      let k = kept_at terms_of stands legal limit value s given id v at quiet.2 in
+      let k = kept_at terms_of stands legal awaited_of limit value s given id v at quiet.2 in
       let at2 : Sees s.views other w = sym (set_else s.views id other (joined v w) apart) ∙ at' in
       inr record {
         base = k.base;
         history = k.history;
         moments = k.moments;
+        awaited = k.awaited;
+        over = k.over;
         next = k.next;
-        bells = k.bells;
+        rest = k.rest;
         words = k.words;
-        rule = subst (Rule terms_of stands legal limit terms k.base k.history k.moments k.next s.homes) (set_swap s.views other id spent_view (joined v w) apart)
-            (into_one terms k.base k.history k.moments k.next s.homes s.views id other v w k.rule at at2 apart quiet idle);
+        rule = subst (Rule terms_of stands legal awaited_of limit terms k.base k.history k.moments k.awaited k.over k.next s.homes) (set_swap s.views other id spent_view (joined v w) apart)
+            (into_one terms k.base k.history k.moments k.awaited k.over k.next s.homes s.views id other v w k.rule at at2 apart quiet idle);
         tally = subst (Tally (length k.history)) (set_swap s.views other id spent_view (joined v w) apart)
-            (tally_both terms k.base k.history k.moments k.next s.homes s.views id other v w k.rule at at2 apart quiet idle (length k.history) k.tally);
+            (tally_both terms k.base k.history k.moments k.awaited k.over k.next s.homes s.views id other v w k.rule at at2 apart quiet idle (length k.history) k.tally);
       }

@@ -1,9 +1,14 @@
 pub mod CallLemmas
 pub mod ViewLemmas
+pub mod HeldLemmas
 pub mod RuleLemmas
 pub mod TallyLemmas
+pub mod TurnEnds
+pub mod HandLemmas
 pub mod DrawKeeps
 pub mod LookKeeps
+pub mod CheckKeeps
+pub mod PassKeeps
 pub mod FinishKeeps
 pub mod SplitKeeps
 pub mod JoinKeeps

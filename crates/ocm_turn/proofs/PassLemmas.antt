@@ -16,14 +16,14 @@ the_some_same None b p q e = absurd (false≢true p)
 the_some_same (Some x) None p q e = absurd (false≢true q)
 the_some_same (Some x) (Some y) p q e = same_some x y e
 
-module _ {G : Type 0} (v w n : View G) (is : n ≡ joined v w) (sound : Sound n) where
+module _ {G M : Type 0} (v w n : View G M) (is : n ≡ joined v w) (sound : Sound n) where
   -- two seats that could be joined have one base
   pub one_base : w.base ≡ v.base
-  one_base = sym (ap (λ (u : View G). u.met_base) is) ∙ (sound.met.0 ∙ ap (λ (u : View G). u.base) is)
+  one_base = sym (ap (λ (u : View G M). u.met_base) is) ∙ (sound.met.0 ∙ ap (λ (u : View G M). u.base) is)
 
   -- and the same terms
   pub one_terms : w.terms ≡ v.terms
-  one_terms = sym (ap (λ (u : View G). u.met_terms) is) ∙ (sound.met.1 ∙ ap (λ (u : View G). u.terms) is)
+  one_terms = sym (ap (λ (u : View G M). u.met_terms) is) ∙ (sound.met.1 ∙ ap (λ (u : View G M). u.terms) is)
 
   module _ (legal : G → List Entry → List Entry → Type 0) (p : is_some v.terms ≡ true) (q : is_some w.terms ≡ true) (r : is_some n.terms ≡ true) where
     -- the longer of two legal histories is legal
@@ -32,4 +32,4 @@ module _ {G : Type 0} (v w n : View G) (is : n ≡ joined v w) (sound : Sound n)
         let theirs : legal (the_some v.terms p) v.base w.seen = subst (λ (z : G × List Entry). legal z.0 z.1 w.seen) (λ i. (the_some_same w.terms v.terms q p one_terms i, one_base i)) b in
         let whole : legal (the_some v.terms p) v.base (longer v.seen w.seen) = longer_either (legal (the_some v.terms p) v.base) v.seen w.seen a theirs in
         subst (λ (z : G × List Entry × List Entry). legal z.0 z.1 z.2)
-        (λ i. (the_some_same v.terms n.terms p r (sym (ap (λ (u : View G). u.terms) is)) i, ap (λ (u : View G). u.base) (sym is) i, ap (λ (u : View G). u.seen) (sym is) i)) whole
+        (λ i. (the_some_same v.terms n.terms p r (sym (ap (λ (u : View G M). u.terms) is)) i, ap (λ (u : View G M). u.base) (sym is) i, ap (λ (u : View G M). u.seen) (sym is) i)) whole

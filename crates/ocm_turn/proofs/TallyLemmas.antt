@@ -10,24 +10,24 @@ use Rattle.ocm_turn.specs.Rule.{Sees, EachView, total, calls_of, parts_of, HasPa
 use Rattle.ocm_turn.specs.Steps.{parted, beside}
 use Rattle.ocm_turn.proofs.ViewLemmas.{each_set, each_added}
 
-module _ {G : Type 0} where
-  module _ (f : View G → ℕ) where
-    pub total_set : (views : List (View G)) (id : ℕ) (v w : View G) → Sees views id v → total f (set views id w) + f v ≡ total f views + f w
+module _ {G M : Type 0} where
+  module _ (f : View G M → ℕ) where
+    pub total_set : (views : List (View G M)) (id : ℕ) (v w : View G M) → Sees views id v → total f (set views id w) + f v ≡ total f views + f w
     total_set [] id v w at = absurd (some-ne-none v (sym at))
     total_set (x ∷ xs) zero v w at = let same : f x ≡ f v = ap f (some-injective x v at) in omega (arith, same)
     total_set (x ∷ xs) (suc id) v w at = let k = total_set xs id v w at in omega (arith, k)
 
-    pub total_added : (views : List (View G)) (w : View G) → total f (views ++ w ∷ []) ≡ total f views + f w
+    pub total_added : (views : List (View G M)) (w : View G M) → total f (views ++ w ∷ []) ≡ total f views + f w
     total_added [] w = omega arith
     total_added (x ∷ xs) w = let k = total_added xs w in omega (arith, k)
 
-    total_at : (views : List (View G)) (id : ℕ) (v : View G) → Sees views id v → f v ≤ total f views
+    total_at : (views : List (View G M)) (id : ℕ) (v : View G M) → Sees views id v → f v ≤ total f views
     total_at [] id v at = absurd (some-ne-none v (sym at))
     total_at (x ∷ xs) zero v at = let same : f x ≡ f v = ap f (some-injective x v at) in omega (arith, same)
     total_at (x ∷ xs) (suc id) v at = let k = total_at xs id v at in omega (arith, k)
 
-  module _ (f g : View G → ℕ) where
-    total_none : (views : List (View G)) → total f views ≡ 0 → EachView views (λ u. f u ≡ 0 → g u ≡ 0) → total g views ≡ 0
+  module _ (f g : View G M → ℕ) where
+    total_none : (views : List (View G M)) → total f views ≡ 0 → EachView views (λ u. f u ≡ 0 → g u ≡ 0) → total g views ≡ 0
     total_none [] e h = refl
     total_none (x ∷ xs) e h =
         let here : g x ≡ 0 = h 0 x refl (omega (arith, e)) in
@@ -35,7 +35,7 @@ module _ {G : Type 0} where
         omega (arith, here, others)
 
     -- where one view has all of f, and each that has none of f has none of g, it has all of g
-    total_one : (views : List (View G)) (id : ℕ) (v : View G) → Sees views id v → total f views ≡ f v → EachView views (λ u. f u ≡ 0 → g u ≡ 0) → total g views ≡ g v
+    total_one : (views : List (View G M)) (id : ℕ) (v : View G M) → Sees views id v → total f views ≡ f v → EachView views (λ u. f u ≡ 0 → g u ≡ 0) → total g views ≡ g v
     total_one [] id v at e h = absurd (some-ne-none v (sym at))
     total_one (x ∷ xs) zero v at e h =
         let one : x ≡ v = some-injective x v at in
@@ -50,7 +50,7 @@ module _ {G : Type 0} where
         omega (arith, here, others)
 
   -- one view with more calls and the same parts
-  pub tally_set : (views : List (View G)) (id : ℕ) (v w : View G) → Sees views id v → (n m : ℕ) → length w.mine + n ≡ length v.mine + m → w.parts ≡ v.parts → w.stage ≡ v.stage → Tally n views → Tally m (set views id w)
+  pub tally_set : (views : List (View G M)) (id : ℕ) (v w : View G M) → Sees views id v → (n m : ℕ) → length w.mine + n ≡ length v.mine + m → w.parts ≡ v.parts → w.stage ≡ v.stage → Tally n views → Tally m (set views id w)
   tally_set views id v w at n m more parts stage h =
       let calls = total_set calls_of views id v w at in
       let all = total_set parts_of views id v w at in
@@ -64,7 +64,7 @@ module _ {G : Type 0} where
       }
 
   -- one part given to a view more, or lost
-  pub tally_split : (views : List (View G)) (id : ℕ) (v : View G) → Sees views id v → v.stage ≡ Named → (n : ℕ) → Tally n views → Tally n (set views id (parted v) ++ beside v ∷ [])
+  pub tally_split : (views : List (View G M)) (id : ℕ) (v : View G M) → Sees views id v → v.stage ≡ Named → (n : ℕ) → Tally n views → Tally n (set views id (parted v) ++ beside v ∷ [])
   tally_split views id v at named n h = elim (nat_lt 1 v.parts) as (λ b. nat_lt 1 v.parts ≡ b → Goal) [
     | true ↦ λ e.
         let some = ltb-true 1 v.parts e in
@@ -86,10 +86,10 @@ module _ {G : Type 0} where
         }
   ] refl
     where
-      before : List (View G)
+      before : List (View G M)
       before = set views id (parted v)
 
-      after : List (View G)
+      after : List (View G M)
       after = before ++ beside v ∷ []
 
       Goal : Type 0
@@ -108,7 +108,7 @@ module _ {G : Type 0} where
       counted = let a = total_set calls_of views id v (parted v) at in let b = total_added calls_of before (beside v) in let c = h.counted in omega (arith, a, b, c)
 
   -- who has all parts has made all calls
-  pub all_mine : (views : List (View G)) (id : ℕ) (v : View G) → Sees views id v → (n : ℕ) → Tally n views → EachView views (λ u. u.stage ≢ Named → u.mine ≡ []) → v.parts ≡ all_parts → length v.mine ≡ n
+  pub all_mine : (views : List (View G M)) (id : ℕ) (v : View G M) → Sees views id v → (n : ℕ) → Tally n views → EachView views (λ u. u.stage ≢ Named → u.mine ≡ []) → v.parts ≡ all_parts → length v.mine ≡ n
   all_mine views id v at n h idle all =
       let low = total_at parts_of views id v at in
       let most = h.most in

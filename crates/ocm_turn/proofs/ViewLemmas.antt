@@ -63,46 +63,46 @@ unfolding IsSpent
 spent_named e = subst IsSpent e tt
 
 -- one view in place of another
-module _ {G : Type 0} (views : List (View G)) (id : ℕ) (v w : View G) (at : Sees views id v) where
-  pub some_set : (P : View G → Type 0) → (P v → P w) → SomeView views P → SomeView (set views id w) P
+module _ {G M : Type 0} (views : List (View G M)) (id : ℕ) (v w : View G M) (at : Sees views id v) where
+  pub some_set : (P : View G M → Type 0) → (P v → P w) → SomeView views P → SomeView (set views id w) P
   some_set P f s = dite (ℕ_discrete s.0 id)
       (λ same. (id, w, here_again views id v w at, f (subst P (some-injective s.1 v (sym s.2 ∙ (ap (get_elem? views) same ∙ at))) s.3)))
       (λ other. (s.0, s.1, set_else views id s.0 w other ∙ s.2, s.3))
 
-  pub each_set : (P Q : View G → Type 0) → ((j : ℕ) (u : View G) → j ≢ id → Sees views j u → P u → Q u) → Q w → EachView views P → EachView (set views id w) Q
+  pub each_set : (P Q : View G M → Type 0) → ((j : ℕ) (u : View G M) → j ≢ id → Sees views j u → P u → Q u) → Q w → EachView views P → EachView (set views id w) Q
   each_set P Q f q all j u e = ⊎_elim
       (λ (m : (j ≡ id) × (w ≡ u)). subst Q m.1 q)
       (λ (m : (j ≢ id) × Sees views j u). f j u m.0 m.1 (all j u m.1)) (at_set views id j w u e)
 
-  pub one_hand_set : OneHand views → ((t j : ℕ) (u : View G) → w.ticket ≡ Some t → j ≢ id → Sees views j u → u.ticket ≡ Some t → ⊥) → OneHand (set views id w)
+  pub one_hand_set : OneHand views → ((t j : ℕ) (u : View G M) → w.ticket ≡ Some t → j ≢ id → Sees views j u → u.ticket ≡ Some t → ⊥) → OneHand (set views id w)
   one_hand_set old fresh i j u z t ei ej ti tj = ⊎_elim
       (λ (m : (i ≡ id) × (w ≡ u)). ⊎_elim
       (λ (n : (j ≡ id) × (w ≡ z)). m.0 ∙ sym n.0)
-      (λ (n : (j ≢ id) × Sees views j z). absurd (fresh t j z (ap (λ (y : View G). y.ticket) m.1 ∙ ti) n.0 n.1 tj)) (at_set views id j w z ej))
+      (λ (n : (j ≢ id) × Sees views j z). absurd (fresh t j z (ap (λ (y : View G M). y.ticket) m.1 ∙ ti) n.0 n.1 tj)) (at_set views id j w z ej))
       (λ (m : (i ≢ id) × Sees views i u). ⊎_elim
-      (λ (n : (j ≡ id) × (w ≡ z)). absurd (fresh t i u (ap (λ (y : View G). y.ticket) n.1 ∙ tj) m.0 m.1 ti))
+      (λ (n : (j ≡ id) × (w ≡ z)). absurd (fresh t i u (ap (λ (y : View G M). y.ticket) n.1 ∙ tj) m.0 m.1 ti))
       (λ (n : (j ≢ id) × Sees views j z). old i j u z t m.1 n.1 ti tj) (at_set views id j w z ej)) (at_set views id i w u ei)
 
-  pub apart_set : AllApart views → ((j : ℕ) (u : View G) → j ≢ id → Sees views j u → Disjoint w.mine u.mine) → AllApart (set views id w)
+  pub apart_set : AllApart views → ((j : ℕ) (u : View G M) → j ≢ id → Sees views j u → Disjoint w.mine u.mine) → AllApart (set views id w)
   apart_set old parts i j u z ne ei ej = ⊎_elim
       (λ (m : (i ≡ id) × (w ≡ u)). ⊎_elim
       (λ (n : (j ≡ id) × (w ≡ z)). absurd (ne (m.0 ∙ sym n.0)))
-      (λ (n : (j ≢ id) × Sees views j z). subst (λ (y : View G). Disjoint y.mine z.mine) m.1 (parts j z n.0 n.1)) (at_set views id j w z ej))
+      (λ (n : (j ≢ id) × Sees views j z). subst (λ (y : View G M). Disjoint y.mine z.mine) m.1 (parts j z n.0 n.1)) (at_set views id j w z ej))
       (λ (m : (i ≢ id) × Sees views i u). ⊎_elim
-      (λ (n : (j ≡ id) × (w ≡ z)). subst (λ (y : View G). Disjoint u.mine y.mine) n.1 (disjoint_sym w.mine u.mine (parts i u m.0 m.1)))
+      (λ (n : (j ≡ id) × (w ≡ z)). subst (λ (y : View G M). Disjoint u.mine y.mine) n.1 (disjoint_sym w.mine u.mine (parts i u m.0 m.1)))
       (λ (n : (j ≢ id) × Sees views j z). old i j u z ne m.1 n.1) (at_set views id j w z ej)) (at_set views id i w u ei)
 
 -- one view more
-module _ {G : Type 0} (views : List (View G)) (w : View G) where
-  pub some_added : (P : View G → Type 0) → SomeView views P → SomeView (views ++ w ∷ []) P
+module _ {G M : Type 0} (views : List (View G M)) (w : View G M) where
+  pub some_added : (P : View G M → Type 0) → SomeView views P → SomeView (views ++ w ∷ []) P
   some_added P s = (s.0, s.1, at_longer views (w ∷ []) s.0 s.1 s.2, s.3)
 
-  pub each_added : (P : View G → Type 0) → P w → EachView views P → EachView (views ++ w ∷ []) P
+  pub each_added : (P : View G M → Type 0) → P w → EachView views P → EachView (views ++ w ∷ []) P
   each_added P p all j u e = ⊎_elim (λ (m : Sees views j u). all j u m) (λ (m : w ≡ u). subst P m p) (at_snoc views w u j e)
 
   pub one_hand_added : OneHand views → w.ticket ≡ None → OneHand (views ++ w ∷ [])
   one_hand_added old none i j u z t ei ej ti tj =
-      let idle : (y : View G) → w ≡ y → y.ticket ≡ Some t → ⊥ = λ y e has. no_ticket t (sym none ∙ (ap (λ (x : View G). x.ticket) e ∙ has)) in
+      let idle : (y : View G M) → w ≡ y → y.ticket ≡ Some t → ⊥ = λ y e has. no_ticket t (sym none ∙ (ap (λ (x : View G M). x.ticket) e ∙ has)) in
       ⊎_elim
       (λ (m : Sees views i u). ⊎_elim (λ (n : Sees views j z). old i j u z t m n ti tj) (λ (n : w ≡ z). absurd (idle z n tj)) (at_snoc views w z j ej))
       (λ (m : w ≡ u). absurd (idle u m ti)) (at_snoc views w u i ei)
@@ -111,5 +111,5 @@ module _ {G : Type 0} (views : List (View G)) (w : View G) where
   apart_added old none i j u z ne ei ej = ⊎_elim
       (λ (m : Sees views i u). ⊎_elim
       (λ (n : Sees views j z). old i j u z ne m n)
-      (λ (n : w ≡ z). subst (Disjoint u.mine) (sym none ∙ ap (λ (y : View G). y.mine) n) (disjoint_none u.mine)) (at_snoc views w z j ej))
-      (λ (m : w ≡ u). subst (λ (cs : List Call). Disjoint cs z.mine) (sym none ∙ ap (λ (y : View G). y.mine) m) tt) (at_snoc views w u i ei)
+      (λ (n : w ≡ z). subst (Disjoint u.mine) (sym none ∙ ap (λ (y : View G M). y.mine) n) (disjoint_none u.mine)) (at_snoc views w z j ej))
+      (λ (m : w ≡ u). subst (λ (cs : List Call). Disjoint cs z.mine) (sym none ∙ ap (λ (y : View G M). y.mine) m) tt) (at_snoc views w u i ei)

@@ -25,6 +25,6 @@ pub record Moved {Terms : Type 0} (old new : Known Terms) (calls : List Entry) :
   pub drawn : old.drawn ≤ new.drawn
   pub parts : new.parts ≡ old.parts
 
--- none of these calls was refused: none was made, or the last word that was drawn is below the limit
+-- none of these calls was refused: none was made, or the number of calls that was found last is below the limit
 abbrev pub Unspent : {Terms : Type 0} → ℕ → Known Terms → Known Terms → List Entry → Type 0
 Unspent limit old new calls = ((calls ≡ []) × (new.drawn ≡ old.drawn)) ⊎ (new.drawn < limit)

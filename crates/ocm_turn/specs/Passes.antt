@@ -5,7 +5,7 @@ use Rattle.atomic_table.specs.Seated.{TableId}
 use Rattle.ocm_entry.specs.declared.entries.Entry.{Entry}
 use Rattle.ocm_turn.specs.declared.view.Call.{Call}
 
--- a turnstile: which one it is, and at which ticket calls end
+-- a turnstile: which one it is, and how many calls it takes
 pub record Gate : Type 0 where
   pub id : TableId
   pub limit : ℕ
@@ -14,7 +14,7 @@ pub record Gate : Type 0 where
 abbrev pub all_parts : ℕ
 all_parts = 2 ^ 64
 
--- a pass: its turnstile, the base and the terms of the value behind it, the history up to the pass's last call with the moment behind each of its entries, its own calls, the greatest ticket word that a draw has found, and its parts
+-- a pass: its turnstile, the base and the terms of the value behind it, the history up to the pass's last call with the moment behind each of its entries, its own calls, the greatest number of calls that were over when a turn of it was used, and its parts
 pub record Known (Terms : Type 0) : Type 0 where
   pub turnstile : TableId
   pub base : List Entry

@@ -1,15 +1,35 @@
-ghost use Rattle.std.specs.Prelude.{◌≡◌, ℕ, List, [], ◌∷◌, IsTrue};
+ghost use Rattle.std.specs.Prelude.{◌≡◌, ◌≢◌, ℕ, List, [], ◌∷◌, Option, Some, None, is_some, IsTrue};
 ghost use Rattle.ocm_entry.specs.Proper.{is_proper};
+ghost use Rattle.ocm_entry.specs.declared.asks.Ask as asks;
 ghost use Rattle.ocm_entry.specs.declared.entries.Entry.{Entry};
+ghost use Rattle.ocm_turn.specs.Begun.{IfReplied, IfApart, IfBusy, IsNoReply};
 ghost use Rattle.ocm_turn.specs.Calls.{entry};
 
 use ocm_entry::{Ask, Object, Reply};
 
-/// An object each of whose steps is tied to the moment at which it was over.
+/// What a value makes of an ask in a turn.
+pub enum Begun<W> {
+    /// The reply. The call is over.
+    Replied(Reply),
+    /// What has to be done outside of the value's turns before the call ends.
+    Apart(W),
+    /// The call has to wait for another's work. The ask comes back, and nothing happened.
+    Busy(Ask),
+}
+
+/// An object that answers a call in one turn, or in two with work of its own between them, as a write that takes long.
+/// While it waits for the work of a call it answers other calls, as if that call had not begun.
 ///
-/// A moment is a number, and what it counts is the implementation's to say, as whether it ever falls. So is what a value
-/// that came to be by calls, with a moment behind each, has to do with these moments.
+/// Each call is tied to the moment at which it was over. A moment is a number, and what it counts is the implementation's
+/// to say, as whether it ever falls. So is what a value that came to be by calls, with a moment behind each, has to do with
+/// these moments.
 pub trait Dated: Object {
+    /// What a call does outside of the value's turns.
+    type Work;
+
+    /// What tells one piece of work from another. No value of it is made; contracts speak of it.
+    type Mark;
+
     // The moment of what the value writes.
     ghost moment: { Self → ℕ };
 
@@ -17,13 +37,47 @@ pub trait Dated: Object {
     // as calls, the newest first.
     ghost came: { Self → List Entry → List Entry → List ℕ → Type 0 };
 
-    /// Takes one step and answers it, as [`Object::act`] does. The step is tied to the moment behind it.
-    fn step(&mut self, ask: Ask) -> Reply
+    // The mark of the work for which the value waits, if any.
+    ghost awaited: { Self → Option Self.Mark };
+
+    // The mark of a piece of work.
+    ghost mark: { Self.Work → Self.Mark };
+
+    // Whether a piece of work is that of a call with this ask.
+    ghost is_for: { Self.Work → asks.Ask → Type 0 };
+
+    /// Whether a call with this ask may have to wait for another's work. It is a guess, and nothing hangs on it but time.
+    fn may_wait(ask: &Ask) -> bool;
+
+    /// Whether the value waits for the work of a call.
+    fn awaits(&self) -> bool
+        ensures { result ≡ is_some (awaited self.now) };
+
+    /// Begins a call, and ends it where it needs no work.
+    fn begin(&mut self, ask: Ask) -> Begun<Self::Work>
         requires proper { IsTrue (is_proper ask) }
         ensures terms { Self.terms self.new ≡ Self.terms self.old }
-        ensures stands { (k h : List Entry) → Self.stands self.old k h → Self.legal (Self.terms self.old) k h → Self.stands self.new k (entry ask result ∷ h) }
-        ensures legal { (k h : List Entry) → Self.stands self.old k h → Self.legal (Self.terms self.old) k h → Self.legal (Self.terms self.old) k (entry ask result ∷ h) }
-        ensures came { (k h : List Entry) (moments : List ℕ) → Self.stands self.old k h → Self.legal (Self.terms self.old) k h → came self.old k h moments → came self.new k (entry ask result ∷ h) (moment self.new ∷ moments) };
+        ensures replied { IfReplied result (λ r. (awaited self.new ≡ awaited self.old)
+            × ((k h : List Entry) → Self.stands self.old k h → Self.legal (Self.terms self.old) k h → Self.stands self.new k (entry ask r ∷ h) × Self.legal (Self.terms self.old) k (entry ask r ∷ h)
+            × ((moments : List ℕ) → came self.old k h moments → came self.new k (entry ask r ∷ h) (moment self.new ∷ moments)))) }
+        ensures apart { IfApart result (λ work. (awaited self.old ≡ None) × (awaited self.new ≡ Some (mark work)) × is_for work ask) }
+        ensures busy { IfBusy result (λ again. (again ≡ ask) × (awaited self.new ≡ awaited self.old) × (awaited self.old ≢ None)) }
+        ensures stays { IsNoReply result → (k h : List Entry) → Self.stands self.old k h → Self.legal (Self.terms self.old) k h → Self.stands self.new k h
+            × ((moments : List ℕ) → came self.old k h moments → came self.new k h moments) };
+
+    /// Does the work of a call, in no turn.
+    fn carry_out(work: &mut Self::Work)
+        ensures mark { mark work.new ≡ mark work.old }
+        ensures is_for { (ask : asks.Ask) → is_for work.old ask → is_for work.new ask };
+
+    /// Ends a call whose work is done.
+    fn end(&mut self, work: Self::Work) -> Reply
+        requires awaited { awaited self.old ≡ Some (mark work) }
+        ensures terms { (ask : asks.Ask) → is_for work ask → Self.terms self.new ≡ Self.terms self.old }
+        ensures awaited { awaited self.new ≡ None }
+        ensures ended { (ask : asks.Ask) → is_for work ask → (k h : List Entry) → Self.stands self.old k h → Self.legal (Self.terms self.old) k h
+            → Self.stands self.new k (entry ask result ∷ h) × Self.legal (Self.terms self.old) k (entry ask result ∷ h)
+            × ((moments : List ℕ) → came self.old k h moments → came self.new k (entry ask result ∷ h) (moment self.new ∷ moments)) };
 
     // A value that stands for a base alone came to be by no calls.
     ghost begins: { (value : Self) (k : List Entry) → Self.stands value k [] → came value k [] [] };

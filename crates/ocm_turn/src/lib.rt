@@ -2,14 +2,17 @@
 //!
 //! A [`Turnstile`] stands in front of a value that answers one ask at a time. Callers draw tickets and
 //! take their turns at it, so the replies of all of them are those of one legal history, in which each
-//! call stands once. A caller that waits sleeps. Behind each call stands a moment of the value, of which
-//! the value's own trait, [`Dated`], says what it is tied to.
+//! call stands once. A call that has work to do, as a write that takes long, takes two turns and does
+//! it between them. Other callers have their turns meanwhile, and one such call goes on at a time. A
+//! caller that waits sleeps. Behind each call stands a moment of the value, of which the value's own
+//! trait, [`Dated`], says what it is tied to.
 //!
 //! Each caller has a [`Pass`]. What two callers know of each other's calls is what their passes have
 //! seen: an order in time between passes that were never split from one another or joined is not told,
 //! nor is it that a turn comes.
 #![tactic(auto)]
 
+mod behind;
 mod board;
 mod dated;
 pub mod laws;
@@ -18,7 +21,7 @@ mod rule;
 mod turnstile;
 mod view;
 
-pub use dated::Dated;
+pub use dated::{Begun, Dated};
 pub use pass::Pass;
 pub use rule::Founded;
 pub use turnstile::{Shut, Spent, Turnstile};

@@ -7,10 +7,10 @@ use std::marker::Model;
 
 /// A caller's token for one turnstile. It counts its own calls, and a contract sees what it knows:
 /// the base and the terms of the value behind the turnstile, the history up to its last call with the
-/// moment behind each entry, its own calls, the greatest ticket word that a draw has found, and its
-/// parts. The first pass of a turnstile has all parts and gives one to each pass that is split off it;
-/// a join adds up the parts of both. A pass that has all parts again is the only one left, and has made
-/// every call of the turnstile.
+/// moment behind each entry, its own calls, the greatest number of calls that were over when it made or
+/// was refused one, and its parts. The first pass of a turnstile has all parts and gives one to each pass
+/// that is split off it; a join adds up the parts of both. A pass that has all parts again is the only
+/// one left, and has made every call of the turnstile.
 #[derive(Drop)]
 pub struct Pass<T: Dated> {
     pub(crate) seat: TurnSeat<T>,

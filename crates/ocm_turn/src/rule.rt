@@ -4,8 +4,9 @@ ghost use Rattle.ocm_entry.specs.declared.replies.Reply.TheVariants as replies;
 ghost use Rattle.ocm_entry.specs.declared.entries.Entry.{Entry};
 ghost use Rattle.ocm_turn.specs.Calls.{entry};
 ghost use Rattle.ocm_turn.specs.Rule.{Holds, newcomer, spent_view};
-ghost use Rattle.ocm_turn.specs.Steps.{StandsAt, names, draws, rings, looks, finishes, parted, beside, joined};
+ghost use Rattle.ocm_turn.specs.Steps.{StandsAt, names, draws, rings, looks, checks, passes, sets_apart, refuses, finishes, parted, beside, joined};
 
+use crate::behind::Behind;
 use crate::dated::Dated;
 use crate::view::View;
 use atomic_table::{Join, Play, Split, TableRule};
@@ -24,8 +25,8 @@ pub struct Start<T> {
     pub value: Snapshot<T>,
 }
 
-impl<T: Dated> TableRule<Option<T>, View<T::Terms>, Start<T>> for Law<T> {
-    ghost holds = { λ key. Holds T.terms (StandsAt T.stands T.came) T.legal key.limit key.value.value };
+impl<T: Dated> TableRule<Option<Behind<T>>, View<T::Terms, T::Mark>, Start<T>> for Law<T> {
+    ghost holds = { λ key. Holds T.terms (StandsAt T.stands T.came) T.legal T.awaited key.limit key.value.value };
 
     ghost first = { λ key. newcomer key.limit (T.terms key.value.value) };
 }
@@ -45,29 +46,68 @@ pub struct Name<J> {
     of: PhantomData<J>,
 }
 
-impl<T, G, J: Founded> Play<Option<T>, View<G>> for Name<J> {
+impl<B, G, M, J: Founded> Play<Option<B>, View<G, M>> for Name<J> {
     ghost then = { names J.known };
 }
 
 /// A try to draw a ticket.
 pub struct Draw;
 
-impl<T, G> Play<Option<T>, View<G>> for Draw {
+impl<B, G, M> Play<Option<B>, View<G, M>> for Draw {
     ghost then = { draws };
 }
 
-/// A ring of a bell, for the caller that sleeps on it.
+/// A ring of a bell, for the caller that sleeps on it, or a step in the queue of the calls that may have to wait.
 pub struct Ring;
 
-impl<T, G> Play<Option<T>, View<G>> for Ring {
+impl<B, G, M> Play<Option<B>, View<G, M>> for Ring {
     ghost then = { rings };
 }
 
-/// A look at the number of calls done.
-pub struct LookAtDone;
+/// The limit of the turnstile at which a look is made. Each look picks it.
+pub trait Limited {
+    ghost limit: { ℕ };
+}
 
-impl<T: Dated> Play<Option<T>, View<T::Terms>> for LookAtDone {
-    ghost then = { looks T.terms (StandsAt T.stands T.came) T.legal };
+impl Limited for Brand {
+    ghost limit = { 0 };
+}
+
+/// A look at the number of turns that are over.
+pub struct LookAtDone<L> {
+    of: PhantomData<L>,
+}
+
+impl<T: Dated, L: Limited> Play<Option<Behind<T>>, View<T::Terms, T::Mark>> for LookAtDone<L> {
+    ghost then = { looks T.terms (StandsAt T.stands T.came) T.legal T.awaited L.limit };
+}
+
+/// A look at what the rule says of the seat.
+pub struct Check;
+
+impl<B, G, M> Play<Option<B>, View<G, M>> for Check {
+    ghost then = { checks };
+}
+
+/// The end of a turn that ends and begins no call.
+pub struct PassOn;
+
+impl<B, G, M> Play<Option<B>, View<G, M>> for PassOn {
+    ghost then = { passes };
+}
+
+/// The end of a turn that begins a call whose work is done apart.
+pub struct SetApart;
+
+impl<T: Dated> Play<Option<Behind<T>>, View<T::Terms, T::Mark>> for SetApart {
+    ghost then = { sets_apart T.awaited };
+}
+
+/// The end of a turn that finds the limit reached.
+pub struct Refuse;
+
+impl<B, G, M> Play<Option<B>, View<G, M>> for Refuse {
+    ghost then = { refuses };
 }
 
 /// The entry that a finish adds to the history, and the moment behind it. Each finish picks them.
@@ -88,14 +128,14 @@ pub struct Finish<E> {
     of: PhantomData<E>,
 }
 
-impl<T, G, E: Told> Play<Option<T>, View<G>> for Finish<E> {
+impl<B, G, M, E: Told> Play<Option<B>, View<G, M>> for Finish<E> {
     ghost then = { finishes E.told E.moment };
 }
 
 /// A seat cut in two.
 pub struct Cut;
 
-impl<G> Split<View<G>> for Cut {
+impl<G, M> Split<View<G, M>> for Cut {
     ghost left = { parted };
 
     ghost right = { beside };
@@ -104,7 +144,7 @@ impl<G> Split<View<G>> for Cut {
 /// Two seats in one.
 pub struct Glue;
 
-impl<G> Join<View<G>> for Glue {
+impl<G, M> Join<View<G, M>> for Glue {
     ghost both = { joined };
 
     ghost spent = { spent_view };

@@ -1,4 +1,4 @@
-ghost use Rattle.std.specs.Prelude.{◌≡◌, ℕ, ◌<◌, ◌≤◌, ◌^◌, List, [], ◌∷◌, IfOk, IfErr, OnOk, OnErr, IsOkAnd, IsTrue, length, max, ◌+◌, ◌-◌};
+ghost use Rattle.std.specs.Prelude.{◌≡◌, ℕ, ◌<◌, ◌≤◌, ◌^◌, List, [], ◌∷◌, None, IfOk, IfErr, OnOk, OnErr, IsOkAnd, IsTrue, length, max, ◌+◌, ◌-◌};
 ghost use Rattle.ocm_entry.specs.Proper.{is_proper};
 ghost use Rattle.ocm_entry.specs.declared.entries.Entry.{Entry};
 ghost use Rattle.ocm_turn.specs.Calls.{entry, call, IsOlderPart, StandIn, InOrder, longer, moments_of_longer, merged};
@@ -14,7 +14,7 @@ use std::alloc::Global;
 use std::marker::Model;
 use std::sync::Wait;
 
-/// No ticket is left: the limit is reached.
+/// The limit of calls is reached.
 #[derive(Clone, Copy, Debug, PartialEq, Eq)]
 pub struct Spent;
 
@@ -27,9 +27,10 @@ pub struct Shut<T> {
 
 /// A value that many threads call, one after another.
 ///
-/// Each call draws a ticket and waits for its turn. Whatever order the callers come in, all replies
-/// are those of one legal history. Threads share a turnstile by reference, and each has a [`Pass`] of
-/// its own.
+/// Each call draws a ticket and waits for its turn. One that has work to do apart takes a second turn
+/// behind it, and one that has to wait for another's work draws again. Whatever order the callers come
+/// in, all replies are those of one legal history. Threads share a turnstile by reference, and each has
+/// a [`Pass`] of its own.
 pub struct Turnstile<T: Dated> {
     board: TurnTable<T>,
 }
@@ -58,6 +59,7 @@ impl<T: Dated> Turnstile<T> {
     ) -> Result<(Turnstile<T>, Pass<T>), T>
         requires limit { (1 ≤ limit) × (limit ≤ 2 ^ 63) }
         requires value { (base : List Entry) × J.known base × T.stands value base [] × T.legal (T.terms value) base [] }
+        requires home { T.awaited value ≡ None }
         ensures limit { IfOk result (λ r. r.0.limit ≡ limit) }
         ensures own { IfOk result (λ r. BelongsTo r.0 r.1) }
         ensures terms { IfOk result (λ r. r.1.terms ≡ T.terms value) }
@@ -72,7 +74,7 @@ impl<T: Dated> Turnstile<T> {
         }
     }
 
-    /// Makes one call of the value: waits for its turn, asks, and answers the reply. The pass knows the
+    /// Makes one call of the value: waits for its turns, asks, and answers the reply. The pass knows the
     /// history up to it from then on, and the moment behind it. `Spent` says that the limit is reached, and
     /// that nothing happened.
     pub fn call<R: Wait>(&self, rt: &R, pass: &mut Pass<T>, ask: Ask) -> Result<Reply, Spent>
@@ -93,7 +95,7 @@ impl<T: Dated> Turnstile<T> {
         ensures paired { length pass.new.moments ≡ length pass.new.seen }
         ensures no_moment { OnErr result (pass.new.moments ≡ pass.old.moments) }
     {
-        let reply = self.board.take_turn(rt, &mut pass.seat, ask)?;
+        let reply = self.board.call(rt, &mut pass.seat, ask)?;
         pass.calls += 1;
         Ok(reply)
     }
@@ -133,11 +135,12 @@ impl<T: Dated> Turnstile<T> {
         pass.calls += calls;
     }
 
-    /// The end: waits until every call whose ticket was drawn is done, and gives the value back. A pass
-    /// that has all parts made all calls.
+    /// The end: waits until the value awaits no call, and gives it back. A pass that has all parts made
+    /// all calls.
     pub fn close<R: Wait>(self, rt: &R, pass: Pass<T>) -> Shut<T>
         requires own { BelongsTo self pass }
         ensures terms { T.terms result.value ≡ pass.terms }
+        ensures home { T.awaited result.value ≡ None }
         ensures history { (history : List Entry) × T.stands result.value pass.base history × T.legal pass.terms pass.base history
             × IsOlderPart pass.seen history × StandIn history pass.mine × (result.calls ≡ length history)
             × (moments : List ℕ) × T.came result.value pass.base history moments × IsOlderPart pass.moments moments × (length moments ≡ length history) }

@@ -17,8 +17,8 @@ pub enum Stage {
     Spent,
 }
 
-/// What a seat knows, with the terms of the value behind the turnstile. No value of it is made.
-pub struct View<G> {
+/// What a seat knows, with the terms of the value behind the turnstile and the marks of work. No value of it is made.
+pub struct View<G, M> {
     pub stage: Stage,
     pub limit: u64,
     pub terms: Option<G>,
@@ -37,6 +37,16 @@ pub struct View<G> {
     pub met_terms: Option<G>,
     pub ticket: Option<u64>,
     pub turn: bool,
+    /// The history that was found when the turn came.
+    pub found: LinkedList<Entry>,
+    /// The moments behind the entries of `found`.
+    pub found_moments: LinkedList<u64>,
+    /// The mark of the work for which the value waited when the turn came.
+    pub lent: Option<M>,
+    /// The mark of the work of the seat's own call, from the turn that begins the call to the turn that ends it.
+    pub held: Option<M>,
+    /// The greatest number of calls that were over when a turn of the seat was used: the place of its last call, or the
+    /// limit.
     pub drawn: u64,
     /// The seat's parts of the right to know the whole: who has all of them has made every call.
     pub parts: u128,

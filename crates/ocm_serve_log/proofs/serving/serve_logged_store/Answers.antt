@@ -1,21 +1,21 @@
 use denote.Exit as exits
 use denote.Param.{arg, param}
-use denote.Param.Send.{IsSend, arg_send, param_send, sendable}
+use denote.Param.Send.{IsSend, arg_send, param_send}
 use denote.Param.SendFields.{declared_send}
 use denote.RattleType.{RattleType}
 use mir.Syntax.{ty_unit}
-use Rattle.std.proofs.Crossing.{crosses}
 use Rattle.std.proofs.Common.{◌≡◌, ◌∙◌, [], sym, ap, subst}
 use Rattle.std.specs.Prelude.{IfSome}
 use Rattle.ocm_disk.specs.declared.disk.Disk.{Ghosts}
 use Rattle.ocm_server.specs.declared.served.Served.{Served}
 use Rattle.ocm_serve_store.specs.Runs.{HasServed, IsUnserved}
-use Rattle.ocm_serve_store.specs.contracts.followed.Followed as followed
+use Rattle.ocm_serve_store.specs.Following.{store_in, store_of}
+use Rattle.ocm_serve_store.specs.declared.followed.StoreOrFront.{StoreOrFront}
 use Rattle.ocm_serve_log.specs.contracts.logged.LoggedStore as logged
 use Rattle.ocm_serve_log.proofs.Holding.{begun}
 use Rattle.ocm_serve_log.proofs.Told.{logged_run}
+use Rattle.ocm_serve_store.proofs.Sending.{followed-send}
 use Rattle.ocm_serve_log.proofs.logs.Log.TheSendSync as log
-use Rattle.ocm_store.proofs.stores.Store.TheSendSync as store
 use Rattle.ocm_store.specs.Stores.{IsLegalUnder, Stands, terms_of}
 use Rattle.ocm_serve_log.proofs.serving.serve_logged_store.Goals as goal
 
@@ -23,7 +23,7 @@ pub serve_object-requires-clause-value : goal.serve_object-requires-clause-value
 serve_object-requires-clause-value g c κs within =
     let r = c.requires.store in
     let made = c.new-logged.ensures in
-    let is = ap (λ l. l.followed.store) made ∙ c.new-followed.ensures.store in
+    let is = ap (λ l. store_of l.followed) made ∙ ap (λ (held : StoreOrFront g.row.D.Denot g.D.Disk). store_in held) c.new-followed.ensures.held in
     let born = ap (λ l. l.followed.born.value) made ∙ c.new-followed.ensures.born in
     let new = c.new-logged.result in
     let same = ap (λ l. l.log) made in
@@ -40,7 +40,7 @@ serve_object-requires-clause-value g c κs within =
 pub returns-in-Ok-clause-served : goal.returns-in-Ok-clause-served
 returns-in-Ok-clause-served g c = λ calls own has. let s = c.in-Ok.ensures.served in
     logged_run g.D.Disk (λ l. l.followed) (λ l. l.log) g.K.Sink.taken g.K.Sink.faults _ _ c.args.store c.new-logged.result c.in-Ok.done.value _ calls own c.in-Ok.done.calls c.in-Ok.done.own _ s.0 s.1 _ _ _ _
-    (ap (λ l. l.followed.store) c.new-logged.ensures ∙ c.new-followed.ensures.store) (ap (λ l. l.followed.born.value) c.new-logged.ensures ∙ c.new-followed.ensures.born)
+    (ap (λ l. store_of l.followed) c.new-logged.ensures ∙ ap (λ (held : StoreOrFront g.row.D.Denot g.D.Disk). store_in held) c.new-followed.ensures.held) (ap (λ l. l.followed.born.value) c.new-logged.ensures ∙ c.new-followed.ensures.born)
     (c.ended-served.ensures.counts calls own (subst (λ (r : Served). HasServed r calls own) c.run_of.ensures.served has)) s.2 s.3 s.4 c.run_of.ensures.disk c.run_of.ensures.log
 
 pub returns-in-Ok-clause-ended : goal.returns-in-Ok-clause-ended
@@ -69,9 +69,6 @@ returns-in-Err-clause-unlogged g c = λ _.
     (back.0 ∙ ap (λ l. l.sink) same ∙ c.new-log.ensures.sink, back.1 ∙ ap (λ l. l.left_out) same ∙ empty.2, c.run_of-in-Err.ensures.memory ∙ ap (λ l. l.out_of_memory) same ∙ empty.3)
 
 -- a store with a log goes to another thread where its disk and its sink do
-followed-send : (T : RattleType) (d : Ghosts T.Denot) → IsSend T → IsSend (followed.the_row T d)
-followed-send T d s = declared_send (followed.the_type T d) (store.the_send T d s, (search (sendable, crosses), tt))
-
 logged-send : (T K : RattleType) (d : Ghosts T.Denot) → IsSend T → IsSend K → IsSend (logged.the_row T K d)
 logged-send T K d s k = declared_send (logged.the_type T K d) (followed-send T d s, (log.the_send K k, tt))
 

@@ -1,27 +1,25 @@
 use denote.Exit as exits
 use denote.Param.{arg, param}
-use denote.Param.Send.{IsSend, arg_send, param_send, sendable}
-use denote.Param.SendFields.{declared_send}
-use denote.RattleType.{RattleType}
+use denote.Param.Send.{arg_send, param_send}
 use mir.Syntax.{ty_unit}
-use Rattle.std.proofs.Crossing.{crosses}
-use Rattle.std.proofs.Common.{◌∙◌, [], sym, ap, subst}
-use Rattle.ocm_disk.specs.declared.disk.Disk.{Ghosts}
+use Rattle.std.proofs.Common.{◌≡◌, ◌∙◌, [], sym, ap, subst}
+use Rattle.ocm_serve_store.proofs.Sending.{followed-send}
 use Rattle.ocm_serve_store.proofs.Told.{served}
+use Rattle.ocm_serve_store.specs.Following.{store_in, store_of}
 use Rattle.ocm_serve_store.specs.contracts.followed.Followed as followed
-use Rattle.ocm_store.proofs.stores.Store.TheSendSync as store
+use Rattle.ocm_serve_store.specs.declared.followed.StoreOrFront.{StoreOrFront}
 use Rattle.ocm_store.specs.Stores.{IsLegalUnder, Stands, disk_of, terms_of}
 use Rattle.ocm_serve_store.proofs.serving.serve_store.Goals as goal
 
 pub serve_object-requires-clause-value : goal.serve_object-requires-clause-value
 serve_object-requires-clause-value g c κs within =
     let r = c.requires.store in
-    let is = sym c.new.ensures.store in
-    (r.0, r.1, (subst (λ s. Stands g.D.Disk s r.0 []) is r.2, c.new.ensures.store ∙ sym c.new.ensures.born), subst (λ s. IsLegalUnder (terms_of s) r.0 []) is r.3)
+    let is : store_of c.new.result ≡ c.args.store = ap (λ (held : StoreOrFront g.row.D.Denot g.D.Disk). store_in held) c.new.ensures.held in
+    (r.0, r.1, (subst (λ s. Stands g.D.Disk s r.0 []) (sym is) r.2, is ∙ sym c.new.ensures.born), subst (λ s. IsLegalUnder (terms_of s) r.0 []) (sym is) r.3)
 
 pub returns-in-Ok-clause-served : goal.returns-in-Ok-clause-served
 returns-in-Ok-clause-served g c = λ calls own has. let s = c.in-Ok.ensures.served in
-    served g.D.Disk _ _ c.args.store c.new.result c.in-Ok.done.value _ calls own c.in-Ok.done.calls c.in-Ok.done.own _ s.0 s.1 c.new.ensures.store c.new.ensures.born
+    served g.D.Disk _ _ c.args.store c.new.result c.in-Ok.done.value _ calls own c.in-Ok.done.calls c.in-Ok.done.own _ s.0 s.1 (ap (λ (held : StoreOrFront g.row.D.Denot g.D.Disk). store_in held) c.new.ensures.held) c.new.ensures.born
     (c.ended-served.ensures.counts calls own has) s.2 s.3 s.4 (c.into_disk.ensures ∙ ap disk_of c.into_store.ensures)
 
 pub returns-in-Ok-clause-unasked : goal.returns-in-Ok-clause-unasked
@@ -29,10 +27,6 @@ returns-in-Ok-clause-unasked g c = λ unserved. absurd (c.ended-served.ensures.s
 
 pub returns-in-Ok-clause-kept : goal.returns-in-Ok-clause-kept
 returns-in-Ok-clause-kept g c = λ unserved. absurd (c.ended-served.ensures.served unserved)
-
--- a store that is followed goes to another thread where its disk does
-followed-send : (T : RattleType) (d : Ghosts T.Denot) → IsSend T → IsSend (followed.the_row T d)
-followed-send T d s = declared_send (followed.the_type T d) (store.the_send T d s, (search (sendable, crosses), tt))
 
 pub serve_object-requires-send-T : goal.serve_object-requires-send-T
 serve_object-requires-send-T g c κs within =

@@ -12,7 +12,7 @@ use Rattle.ocm_server.proofs.objects.serve_through.Goals as goal
 
 pub returns-clause-service : goal.returns-clause-service
 returns-clause-service g c =
-    let W : Type 0 = Worker g.row.T.Denot g.row.L.Denot g.row.N.Denot g.row.K.Denot g.row.T-Terms.Denot g.row.L-Conn.Denot in
+    let W : Type 0 = Worker g.row.T.Denot g.row.L.Denot g.row.N.Denot g.row.K.Denot g.row.T-Work.Denot g.row.T-Mark.Denot g.row.T-Terms.Denot g.row.L-Conn.Denot in
     let view : W → Work g.row.L-Conn.Denot g.row.T-Terms.Denot = λ w. work (g.L.Door.told w.door) (g.L.Door.faults w.door) (g.N.Dial.exchanges w.dial) (g.N.Dial.faults w.dial) (g.N.Dial.delivers w.dial) w.draw (g.K.Clock.given w.clock) w.pass w.end in
     let mine : W → List Call = λ w. mine_of w.pass in
     let dealt : (i : ℕ) → i < length c.args.workers.now → i < length c.deal.new.workers = λ i below. let a = c.deal.auto.workers in omega (arith, below, a) in
@@ -41,7 +41,7 @@ returns-clause-service g c =
 
 pub gather-requires-clause-one : goal.gather-requires-clause-one
 gather-requires-clause-one g c = λ i d below.
-    let W : Type 0 = Worker g.row.T.Denot g.row.L.Denot g.row.N.Denot g.row.K.Denot g.row.T-Terms.Denot g.row.L-Conn.Denot in
+    let W : Type 0 = Worker g.row.T.Denot g.row.L.Denot g.row.N.Denot g.row.K.Denot g.row.T-Work.Denot g.row.T-Mark.Denot g.row.T-Terms.Denot g.row.L-Conn.Denot in
     let view : W → Work g.row.L-Conn.Denot g.row.T-Terms.Denot = λ w. work (g.L.Door.told w.door) (g.L.Door.faults w.door) (g.N.Dial.exchanges w.dial) (g.N.Dial.faults w.dial) (g.N.Dial.delivers w.dial) w.draw (g.K.Clock.given w.clock) w.pass w.end in
     let a = c.deal.auto.workers in
     let b = c.serve_all-rounds.auto.workers in
@@ -50,14 +50,14 @@ gather-requires-clause-one g c = λ i d below.
 
 pub returns-clause-ended : goal.returns-clause-ended
 returns-clause-ended g c = λ is i d below.
-    let W : Type 0 = Worker g.row.T.Denot g.row.L.Denot g.row.N.Denot g.row.K.Denot g.row.T-Terms.Denot g.row.L-Conn.Denot in
+    let W : Type 0 = Worker g.row.T.Denot g.row.L.Denot g.row.N.Denot g.row.K.Denot g.row.T-Work.Denot g.row.T-Mark.Denot g.row.T-Terms.Denot g.row.L-Conn.Denot in
     let a = c.gather.auto.workers in
     let within : i < length c.serve_all-rounds.new.workers = omega (arith, below, a) in
     ap (λ (w : W). w.end) (c.gather.ensures.taken i d within) ∙ c.serve_all-rounds.ensures.ended is i d within
 
 pub returns-clause-fault : goal.returns-clause-fault
 returns-clause-fault g c = λ is.
-    let W : Type 0 = Worker g.row.T.Denot g.row.L.Denot g.row.N.Denot g.row.K.Denot g.row.T-Terms.Denot g.row.L-Conn.Denot in
+    let W : Type 0 = Worker g.row.T.Denot g.row.L.Denot g.row.N.Denot g.row.K.Denot g.row.T-Work.Denot g.row.T-Mark.Denot g.row.T-Terms.Denot g.row.L-Conn.Denot in
     let a = c.gather.auto.workers in
     let one = c.serve_all-rounds.ensures.fault is in
     (one.0, omega (arith, one.1, a), λ d. ap (λ (w : W). w.end) (c.gather.ensures.taken one.0 d one.1) ∙ one.2 d)

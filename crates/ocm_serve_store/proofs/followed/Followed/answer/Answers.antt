@@ -1,17 +1,15 @@
+use Rattle.std.proofs.Common.{sym, subst}
+use Rattle.ocm_serve_store.specs.Following.{store_in}
+use Rattle.ocm_serve_store.specs.declared.followed.StoreOrFront.{StoreOrFront}
+use Rattle.ocm_serve_store.proofs.Answering.{answered-beside}
+use Rattle.ocm_store.specs.Acts.{Acts}
+use Rattle.ocm_store.specs.Parting.{mark_of_front}
 use Rattle.ocm_serve_store.proofs.followed.Followed.answer.Goals as goal
 
-pub returns-clause-acts : goal.returns-clause-acts
-returns-clause-acts g c = record {
-  terms = c.act.ensures.terms;
-  stands = λ k h it. c.act.ensures.stands k h it.stands it.legal;
-  legal = λ k h it. c.act.ensures.legal k h it.stands it.legal;
-  cause = c.act.ensures.cause;
-  no_cause = c.act.ensures.no_cause;
-  any_moment = c.act.ensures.any_moment;
-  idle = c.act.ensures.idle;
-  made = c.act.ensures.made;
-  not_made = c.act.ensures.not_made;
-  fewer = c.act.ensures.fewer;
-  passes = c.act.ensures.passes;
-  journal = c.act.ensures.journal;
-}
+pub returns-in-Store-clause-acts : goal.returns-in-Store-clause-acts
+returns-in-Store-clause-acts g c = subst (λ (held : StoreOrFront g.row.D.Denot g.D.Disk). Acts g.D.Disk (store_in held) c.acted.new.store c.args.ask c.acted.result) (sym c.in-Store.is) c.acted.ensures
+
+pub returns-in-Front-clause-acts : goal.returns-in-Front-clause-acts
+returns-in-Front-clause-acts g c = let before = (mark_of_front c.in-Front.front).before.value in
+    subst (λ (held : StoreOrFront g.row.D.Denot g.D.Disk). Acts g.D.Disk (store_in held) before c.args.ask c.unwrap_or.result) (sym c.in-Front.is)
+    (subst (λ reply. Acts g.D.Disk before before c.args.ask reply) (sym c.unwrap_or.ensures) (answered-beside g.D.Disk g.met.D.Disk.only_now before c.args.ask c.act-reply.result c.act-reply.ensures.acts))

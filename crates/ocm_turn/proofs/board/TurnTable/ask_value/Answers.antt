@@ -1,6 +1,0 @@
-use Rattle.std.proofs.Common.{rules, ◌≡◌, ℕ, List, ◌∷◌, sym, refl, subst, Option, Some}
-use Rattle.atomic_table.specs.Table.{rest}
-use Rattle.ocm_turn.proofs.board.TurnTable.ask_value.Goals as goal
-
-pub slot_mut-requires : goal.slot_mut-requires
-slot_mut-requires g c = let t = c.requires.value in (search rules, (Some t.0, subst (λ (l : List (ℕ × Option g.row.T.Denot)). l ≡ (0, Some t.0) ∷ rest l) (sym t.1) refl))
