@@ -1,11 +1,11 @@
 //! How a store with a log answers an ask: as the store does, and the line of a read that was answered follows in its log.
 //! Workers ask what is due at least once a minute, and then lines are written, so that none waits for longer.
-ghost use Rattle.std.specs.Prelude.{◌≡◌, ◌≢◌, ◌∷◌, ℕ, List, Some, None, IsTrue};
+ghost use Rattle.std.specs.Prelude.{◌≡◌, ◌≢◌, ◌∷◌, ℕ, List, Some, None, IsTrue, IfOk, IfErr};
 ghost use Rattle.ocm_entry.specs.Proper.{is_proper};
 ghost use Rattle.ocm_entry.specs.declared.asks.Ask.{Ask};
 ghost use Rattle.ocm_entry.specs.declared.entries.Entry.{Entry};
 ghost use Rattle.ocm_serve_log.specs.Standing.{StandsLogged};
-ghost use Rattle.ocm_serve_store.specs.Following.{CameSince, IsLegalSince, StandsSince, mark_in, origin_of, store_of};
+ghost use Rattle.ocm_serve_store.specs.Following.{CameSince, HasToWait, IsLegalSince, StandsSince, mark_in, origin_of, store_of};
 ghost use Rattle.ocm_store.specs.Parting.{IsFor, mark_of};
 ghost use Rattle.ocm_store.specs.Stores.{disk_of};
 ghost use Rattle.ocm_turn.specs.Begun.{IfReplied, IfApart, IfBusy, IsNoReply};
@@ -38,6 +38,36 @@ impl<D: Disk, K: LogSink> LoggedStore<D, K> {
         let now = self.followed.moment();
         self.log.pass(now, due);
         reply
+    }
+
+    /// Answers an ask as the store does, and puts the line of a read that was answered into the log. An `Err` gives the ask
+    /// back, as the store does.
+    fn try_answer(&mut self, ask: Ask) -> Result<Reply, Ask>
+        requires proper { IsTrue (is_proper ask) }
+        ensures terms { origin_of self.new.followed ≡ origin_of self.old.followed }
+        ensures replied { IfOk result (λ reply. (mark_in self.new.followed.held ≡ mark_in self.old.followed.held)
+            × ((k h : List Entry) → StandsLogged ⟦<D as Disk>⟧ K.taken K.faults self.old.followed self.old.log k h → IsLegalSince ⟦<D as Disk>⟧ (origin_of self.old.followed) k h
+            → StandsLogged ⟦<D as Disk>⟧ K.taken K.faults self.new.followed self.new.log k (entry ask reply ∷ h) × IsLegalSince ⟦<D as Disk>⟧ (origin_of self.old.followed) k (entry ask reply ∷ h)
+            × ((moments : List ℕ) → CameSince ⟦<D as Disk>⟧ self.old.followed k h moments → CameSince ⟦<D as Disk>⟧ self.new.followed k (entry ask reply ∷ h) (D.moment (disk_of (store_of self.new.followed)) ∷ moments)))) }
+        ensures busy { IfErr result (λ again. HasToWait ⟦<D as Disk>⟧ self.old.followed self.new.followed ask again) }
+        ensures stays { IfErr result (λ again. (self.new.log ≡ self.old.log) × (self.new.followed.born ≡ self.old.followed.born)) }
+    {
+        let place = self.followed.kept();
+        let moment = self.followed.moment();
+        let read = self.log.text_of_read(&ask, place, moment);
+        let due = matches!(&ask, Ask::Due);
+        match self.followed.try_answer(ask) {
+            Ok(reply) => {
+                self.log.note(read, &reply);
+                let now = self.followed.moment();
+                self.log.pass(now, due);
+                Ok(reply)
+            }
+            Err(again) => {
+                drop(read);
+                Err(again)
+            }
+        }
     }
 
     /// Begins to answer an ask as the store does. The line of a read that was answered goes into the log.
@@ -138,6 +168,10 @@ impl<D: Disk, K: LogSink> Dated for LoggedStore<D, K> {
 
     fn awaits(&self) -> bool {
         self.followed.is_parted()
+    }
+
+    fn step(&mut self, ask: Ask) -> Result<Reply, Ask> {
+        self.try_answer(ask)
     }
 
     fn begin(&mut self, ask: Ask) -> Begun<Writing<D>> {

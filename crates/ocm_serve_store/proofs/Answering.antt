@@ -1,6 +1,6 @@
 -- What an answer makes of a store that is followed.
 use Rattle.std.proofs.Common.{◌≡◌, ◌≢◌, ℕ, List, ◌∷◌, Option, Some, None, unwrap_or, refl, sym, ap, subst}
-use Rattle.std.specs.Prelude.{IfSome}
+use Rattle.std.specs.Prelude.{IfSome, IfOk, IfErr, Result, Ok, Err}
 use Rattle.ocm_disk.specs.declared.disk.Disk.{Ghosts}
 use Rattle.ocm_entry.specs.declared.asks.Ask.{Ask}
 use Rattle.ocm_entry.specs.declared.entries.Entry.{Entry}
@@ -58,6 +58,39 @@ module _ {D : Type 0} (disk : Ghosts D) (old new : Followed D disk) (same : stor
 
   pub stays-came : (k h : List Entry) (moments : List ℕ) → CameSince disk old k h moments → CameSince disk new k h moments
   stays-came k h moments came = subst (λ (p : Store D disk × Store D disk). CourseAt disk p.1 h moments p.0) (λ i. (sym same i, ap (λ (o : Origin D disk). o.born.value) (sym stays-origin) i)) came
+
+-- what a call makes of a store that is followed, where it is answered within its turn
+module _ {D : Type 0} (disk : Ghosts D) (old new : Followed D disk) (ask : Ask) (born : new.born ≡ old.born) where
+  pub ok-since : (told : Result Reply Ask) → IfOk told (λ reply. Acts disk (store_of old) (store_of new) ask reply × (mark_in new.held ≡ mark_in old.held))
+      → IfOk told (λ reply. (mark_in new.held ≡ mark_in old.held)
+      × ((k h : List Entry) → StandsSince disk old k h → IsLegalSince disk (origin_of old) k h → StandsSince disk new k (entry ask reply ∷ h) × IsLegalSince disk (origin_of old) k (entry ask reply ∷ h)
+      × ((moments : List ℕ) → CameSince disk old k h moments → CameSince disk new k (entry ask reply ∷ h) (disk.moment (disk_of (store_of new)) ∷ moments))))
+  ok-since (Ok reply) did = (
+    did.1,
+    λ k h s legal. (
+      stands-since disk old new ask reply did.0 born k h s legal,
+      legal-since disk old new ask reply did.0 born k h s legal,
+      came-since disk old new ask reply did.0 born k h,
+    ),
+  )
+  ok-since (Err again) did = tt
+
+  -- an ask that comes back leaves all as it was
+  pub err-since : (told : Result Reply Ask) → IfErr told (λ again. HasToWait disk old new ask again)
+      → IfErr told (λ again. (again ≡ ask) × (mark_in new.held ≡ mark_in old.held) × (mark_in old.held ≢ None))
+  err-since (Ok reply) waits = tt
+  err-since (Err again) waits = (waits.0, ap (λ (f : Followed D disk). mark_in f.held) waits.1, waits.2)
+
+  pub err-stays : (told : Result Reply Ask) → IfErr told (λ again. HasToWait disk old new ask again)
+      → IfErr told (λ again. (k h : List Entry) → StandsSince disk old k h → IsLegalSince disk (origin_of old) k h → StandsSince disk new k h × ((moments : List ℕ) → CameSince disk old k h moments → CameSince disk new k h moments))
+  err-stays (Ok reply) waits = tt
+  err-stays (Err again) waits = let same = ap (λ (f : Followed D disk). store_of f) waits.1 in
+      λ k h s legal. (stays-stands disk old new same born k h s, stays-came disk old new same born k h)
+
+  pub told-terms : (told : Result Reply Ask) → IfOk told (λ reply. Acts disk (store_of old) (store_of new) ask reply × (mark_in new.held ≡ mark_in old.held))
+      → IfErr told (λ again. HasToWait disk old new ask again) → origin_of new ≡ origin_of old
+  told-terms (Ok reply) did waits = origin-stays disk old new ask reply did.0 born
+  told-terms (Err again) did waits = stays-origin disk old new (ap (λ (f : Followed D disk). store_of f) waits.1) born
 
 -- what a call that was begun makes of a store that is followed
 module _ {D : Type 0} (disk : Ghosts D) (old new : Followed D disk) (ask : Ask) (born : new.born ≡ old.born) where

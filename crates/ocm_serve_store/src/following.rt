@@ -1,6 +1,6 @@
 //! How a store that is followed answers an ask: as the store does. A change is begun, written while others read, and ended.
 //! What is taken to change nothing is answered where the store lies.
-ghost use Rattle.std.specs.Prelude.{◌≡◌, ◌++◌, ℕ, List, true, false, Some, None, IsTrue, is_some};
+ghost use Rattle.std.specs.Prelude.{◌≡◌, ◌++◌, ℕ, List, true, false, Some, None, IsTrue, is_some, IfOk, IfErr};
 ghost use Rattle.ocm_entry.specs.Proper.{is_proper};
 ghost use Rattle.ocm_entry.specs.Ticks.{is_tick};
 ghost use Rattle.ocm_entry.specs.declared.asks.Ask.{Ask};
@@ -143,28 +143,31 @@ impl<D: Disk> Followed<D> {
         ensures busy { IfBusy result (λ again. HasToWait ⟦<D as Disk>⟧ self.old self.new ask again) }
         ensures born { self.new.born ≡ self.old.born }
     {
-        if self.is_parted() || !may_change(&ask) {
-            return self.start_in_place(ask);
+        if self.is_parted() {
+            return match self.try_answer(ask) {
+                Ok(reply) => Begun::Replied(reply),
+                Err(again) => Begun::Busy(again),
+            };
         }
         replace_with(&mut self.held, ask, |held, ask| begun(held, ask))
     }
 
-    /// Answers an ask where the store lies. Beside a change that is being written, what would change something has to wait.
-    fn start_in_place(&mut self, ask: Ask) -> Begun<Writing<D>>
+    /// Answers an ask where the store lies. An `Err` gives the ask back: a change is being written, and this one would change
+    /// something too.
+    pub fn try_answer(&mut self, ask: Ask) -> Result<Reply, Ask>
         requires proper { IsTrue (is_proper ask) }
-        ensures replied { IfReplied result (λ reply. Acts ⟦<D as Disk>⟧ (store_of self.old) (store_of self.new) ask reply × (mark_in self.new.held ≡ mark_in self.old.held)) }
-        ensures apart { IfApart result (λ work. ⊥) }
-        ensures busy { IfBusy result (λ again. HasToWait ⟦<D as Disk>⟧ self.old self.new ask again) }
+        ensures replied { IfOk result (λ reply. Acts ⟦<D as Disk>⟧ (store_of self.old) (store_of self.new) ask reply × (mark_in self.new.held ≡ mark_in self.old.held)) }
+        ensures busy { IfErr result (λ again. HasToWait ⟦<D as Disk>⟧ self.old self.new ask again) }
         ensures born { self.new.born ≡ self.old.born }
     {
         match &mut self.held {
-            StoreOrFront::Store(store) => Begun::Replied(acted(store, ask)),
+            StoreOrFront::Store(store) => Ok(acted(store, ask)),
             StoreOrFront::Front(front) => match front.act(&ask) {
                 Some(reply) => {
                     drop(ask);
-                    Begun::Replied(reply)
+                    Ok(reply)
                 }
-                None => Begun::Busy(ask),
+                None => Err(ask),
             },
         }
     }
@@ -259,6 +262,10 @@ impl<D: Disk> Dated for Followed<D> {
 
     fn awaits(&self) -> bool {
         self.is_parted()
+    }
+
+    fn step(&mut self, ask: Ask) -> Result<Reply, Ask> {
+        self.try_answer(ask)
     }
 
     fn begin(&mut self, ask: Ask) -> Begun<Writing<D>> {

@@ -84,7 +84,22 @@ impl<D: Disk> Store<D> {
         requires { IsTrue (is_proper ask.now) }
         ensures { Acts ⟦<D as Disk>⟧ self.old self.new ask.now result }
     {
-        match self.ready_for(ask) {
+        match self.history.core.answer(ask) {
+            Ok(planned) => self.reply_planned(ask, planned),
+            Err(NoMemory) => Reply::NoMemory,
+        }
+    }
+
+    /// Gives the reply that was planned, where nothing changes or the change is made.
+    fn reply_planned(&mut self, ask: &Ask, planned: Planned) -> Reply
+        requires proper { IsTrue (is_proper ask.now) }
+        requires plans { Plans self.old.history.core.state ask.now planned }
+        ensures { Acts ⟦<D as Disk>⟧ self.old self.new ask.now result }
+    {
+        if !planned.changes() {
+            return planned.into_reply();
+        }
+        match self.answer(ask, planned) {
             Ok(change) => self.write_down(change),
             Err(reply) => reply,
         }

@@ -1,5 +1,6 @@
 -- What a seat has in hand when the value was asked.
 use Rattle.std.proofs.Common.{◌≡◌, ℕ, ◌+◌, List, [], ◌∷◌, refl, sym, ap, ◌∙◌, subst, arith, Option, Some, None}
+use Rattle.std.specs.Prelude.{Result, Ok, Err, IfOk, IfErr}
 use Rattle.atomic_table.specs.Table.{Me, rest}
 use Rattle.ocm_entry.specs.declared.asks.Ask.{Ask}
 use Rattle.ocm_entry.specs.declared.entries.Entry.{Entry}
@@ -34,6 +35,20 @@ module _ {W : Type 0} where
   if_busy (Replied r) P Q f p = tt
   if_busy (Apart w) P Q f p = tt
   if_busy (Busy a) P Q f p = f a refl p
+
+-- what is said of a reply
+pub the_ok : (b : Result Reply Ask) (P : Reply → Type 0) (r : Reply) → b ≡ Ok r → IfOk b P → P r
+the_ok b P r is p = subst (λ (z : Result Reply Ask). IfOk z P) is p
+
+-- where there is no reply, nothing is said of it
+pub no_ok : (b : Result Reply Ask) (P : Reply → Type 0) → ((r : Reply) → b ≡ Ok r → ⊥) → IfOk b P
+no_ok (Ok r) P n = absurd (n r refl)
+no_ok (Err a) P n = tt
+
+-- one fact for two others
+pub if_err : (b : Result Reply Ask) (P Q R : Ask → Type 0) → ((a : Ask) → P a → Q a → R a) → IfErr b P → IfErr b Q → IfErr b R
+if_err (Ok r) P Q R f p q = tt
+if_err (Err a) P Q R f p q = f a p q
 
 module _ {T G : Type 0} (terms_of : T → G) (stands : T → List Entry → List Entry → Type 0) (came : T → List Entry → List Entry → List ℕ → Type 0) (legal : G → List Entry → List Entry → Type 0) where
   -- a value that has made one call more stands for one entry more

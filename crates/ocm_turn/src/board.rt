@@ -257,6 +257,32 @@ impl<T: Dated> TurnTable<T> {
         }
     }
 
+    /// Answers a call of the value in the seat's hands, and tells what the value is behind the step. It stays in its slot:
+    /// nothing of it is moved.
+    fn step(&self, seat: &mut TurnSeat<T>, ask: Ask) -> (Result<Reply, Ask>, Snapshot<T>)
+        requires own { seat.old.table_id ≡ self.now.table.shared.table_id }
+        requires proper { IsTrue (is_proper ask) }
+        requires value { HasInHand T.terms (StandsAt T.stands T.came) T.legal T.awaited seat.old.me seat.old.me.0.found seat.old.me.0.found_moments seat.old.me.0.lent }
+        requires below { length seat.old.me.0.found < self.now.limit }
+        ensures own { (seat.new.table_id ≡ seat.old.table_id) × (seat.new.me.0 ≡ seat.old.me.0) }
+        ensures replied { IfOk result.0 (λ r. HasInHand T.terms (StandsAt T.stands T.came) T.legal T.awaited seat.new.me (entry ask r ∷ seat.new.me.0.found) (T.moment result.1.value ∷ seat.new.me.0.found_moments) seat.new.me.0.lent) }
+        ensures busy { IfErr result.0 (λ again. (again ≡ ask)
+            × HasInHand T.terms (StandsAt T.stands T.came) T.legal T.awaited seat.new.me seat.new.me.0.found seat.new.me.0.found_moments seat.new.me.0.lent
+            × (seat.new.me.0.lent ≢ None)) }
+    {
+        match seat.slot_mut(&self.table.shared, VALUE) {
+            Some(behind) => {
+                let stepped = behind.value.step(ask);
+                if let Ok(_) = &stepped {
+                    behind.calls += 1;
+                }
+                let now = Snapshot::of(&behind.value);
+                (stepped, now)
+            }
+            None => unreachable!(),
+        }
+    }
+
     /// Begins a call of the value in the seat's hands, and tells what the value is behind the step. It stays in its slot:
     /// nothing of it is moved.
     fn begin(&self, seat: &mut TurnSeat<T>, ask: Ask) -> (Begun<T::Work>, Snapshot<T>)
@@ -493,6 +519,73 @@ impl<T: Dated> TurnTable<T> {
         }
     }
 
+    /// A try at a call that is taken to need no work: it is answered within its turn, unless it has to wait for another's.
+    fn try_step<R: Wait>(
+        &self,
+        rt: &R,
+        seat: &mut TurnSeat<T>,
+        said: &Snapshot<Ask>,
+        ask: Ask,
+    ) -> Tried
+        requires own { (seat.old.table_id ≡ self.now.table.shared.table_id) × IsIdle seat.old.me.0 × (seat.old.me.1 ≡ []) }
+        requires proper { IsTrue (is_proper ask) }
+        requires said { said.now.value ≡ ask }
+        ensures own { (seat.new.table_id ≡ seat.old.table_id) × IsIdle seat.new.me.0 × (seat.new.me.1 ≡ []) }
+        ensures over { IfOver result (λ r. HasCalled self.now.limit seat.old.me.0 seat.new.me.0 (entry ask r)
+            × IsLegal T.legal seat.new.me.0 × Sound seat.new.me.0 × (length seat.new.me.0.mine ≤ length seat.new.me.0.seen)) }
+        ensures refused { IfRefused result ((history : List Entry) × (moments : List ℕ) × (awaited : Option T.Mark) × (seat.new.me.0 ≡ spent_at seat.old.me.0 history moments awaited)
+            × (self.now.limit ≤ length history) × (seat.old.me.0.drawn ≤ length history)) }
+        ensures again { IfAgain result (λ again. (again ≡ ask) × (settled seat.new.me.0 ≡ settled seat.old.me.0)) }
+    {
+        self.take_turn(rt, seat);
+        let (calls, awaits) = self.look(seat);
+        if calls >= self.limit {
+            self.refuse(seat);
+            return Tried::Refused;
+        }
+        if awaits && calls + 1 >= self.limit {
+            self.pass_on(seat);
+            return Tried::Again(ask);
+        }
+        let (stepped, behind) = self.step(seat, ask);
+        match stepped {
+            Ok(reply) => {
+                self.finish::<Brand>(seat, said, &reply, &behind);
+                Tried::Over(reply)
+            }
+            Err(again) => {
+                self.pass_on(seat);
+                Tried::Again(again)
+            }
+        }
+    }
+
+    /// A try at a call, as it is taken to need work or none.
+    fn try_once<R: Wait>(
+        &self,
+        rt: &R,
+        seat: &mut TurnSeat<T>,
+        said: &Snapshot<Ask>,
+        ask: Ask,
+        may_wait: bool,
+    ) -> Tried
+        requires own { (seat.old.table_id ≡ self.now.table.shared.table_id) × IsIdle seat.old.me.0 × (seat.old.me.1 ≡ []) }
+        requires proper { IsTrue (is_proper ask) }
+        requires said { said.now.value ≡ ask }
+        ensures own { (seat.new.table_id ≡ seat.old.table_id) × IsIdle seat.new.me.0 × (seat.new.me.1 ≡ []) }
+        ensures over { IfOver result (λ r. HasCalled self.now.limit seat.old.me.0 seat.new.me.0 (entry ask r)
+            × IsLegal T.legal seat.new.me.0 × Sound seat.new.me.0 × (length seat.new.me.0.mine ≤ length seat.new.me.0.seen)) }
+        ensures refused { IfRefused result ((history : List Entry) × (moments : List ℕ) × (awaited : Option T.Mark) × (seat.new.me.0 ≡ spent_at seat.old.me.0 history moments awaited)
+            × (self.now.limit ≤ length history) × (seat.old.me.0.drawn ≤ length history)) }
+        ensures again { IfAgain result (λ again. (again ≡ ask) × (settled seat.new.me.0 ≡ settled seat.old.me.0)) }
+    {
+        if may_wait {
+            self.try_call(rt, seat, said, ask)
+        } else {
+            self.try_step(rt, seat, said, ask)
+        }
+    }
+
     /// One call: takes turns until it is over, or until one finds the limit reached.
     pub fn call<R: Wait>(&self, rt: &R, seat: &mut TurnSeat<T>, ask: Ask) -> Result<Reply, Spent>
         requires own { (seat.old.table_id ≡ self.now.table.shared.table_id) × IsIdle seat.old.me.0 × (seat.old.me.1 ≡ []) }
@@ -512,7 +605,7 @@ impl<T: Dated> TurnTable<T> {
             self.queue(rt, seat);
         }
         for _ in rt.forever() {
-            match self.try_call(rt, seat, &said, ask) {
+            match self.try_once(rt, seat, &said, ask, queued) {
                 Tried::Over(reply) => {
                     if queued {
                         self.leave_queue(seat);

@@ -1,4 +1,4 @@
-ghost use Rattle.std.specs.Prelude.{◌≡◌, ◌≢◌, ℕ, List, [], ◌∷◌, Option, Some, None, is_some, IsTrue};
+ghost use Rattle.std.specs.Prelude.{◌≡◌, ◌≢◌, ℕ, List, [], ◌∷◌, Option, Some, None, is_some, IsTrue, IfOk, IfErr};
 ghost use Rattle.ocm_entry.specs.Proper.{is_proper};
 ghost use Rattle.ocm_entry.specs.declared.asks.Ask as asks;
 ghost use Rattle.ocm_entry.specs.declared.entries.Entry.{Entry};
@@ -46,12 +46,24 @@ pub trait Dated: Object {
     // Whether a piece of work is that of a call with this ask.
     ghost is_for: { Self.Work → asks.Ask → Type 0 };
 
-    /// Whether a call with this ask may have to wait for another's work. It is a guess, and nothing hangs on it but time.
+    /// Whether a call with this ask may need work, or may have to wait for another's. It is a guess: a call that is taken to need
+    /// none is answered by `step`, and any other is begun.
     fn may_wait(ask: &Ask) -> bool;
 
     /// Whether the value waits for the work of a call.
     fn awaits(&self) -> bool
         ensures { result ≡ is_some (awaited self.now) };
+
+    /// Answers a call within one turn. An `Err` gives the ask back: it has to wait for another's work, and nothing happened.
+    fn step(&mut self, ask: Ask) -> Result<Reply, Ask>
+        requires proper { IsTrue (is_proper ask) }
+        ensures terms { Self.terms self.new ≡ Self.terms self.old }
+        ensures replied { IfOk result (λ r. (awaited self.new ≡ awaited self.old)
+            × ((k h : List Entry) → Self.stands self.old k h → Self.legal (Self.terms self.old) k h → Self.stands self.new k (entry ask r ∷ h) × Self.legal (Self.terms self.old) k (entry ask r ∷ h)
+            × ((moments : List ℕ) → came self.old k h moments → came self.new k (entry ask r ∷ h) (moment self.new ∷ moments)))) }
+        ensures busy { IfErr result (λ again. (again ≡ ask) × (awaited self.new ≡ awaited self.old) × (awaited self.old ≢ None)) }
+        ensures stays { IfErr result (λ again. (k h : List Entry) → Self.stands self.old k h → Self.legal (Self.terms self.old) k h → Self.stands self.new k h
+            × ((moments : List ℕ) → came self.old k h moments → came self.new k h moments)) };
 
     /// Begins a call, and ends it where it needs no work.
     fn begin(&mut self, ask: Ask) -> Begun<Self::Work>

@@ -1,0 +1,34 @@
+use Rattle.std.proofs.Common.{◌≡◌, List, ℕ, ◌∷◌, ◌++◌, ap, sym, subst}
+use Rattle.std.specs.List.{AllByRecursion}
+use Rattle.ocm_access_log.specs.Written.{IsLoggable}
+use Rattle.ocm_access_log.specs.declared.lines.LogLine.{LogLine}
+use Rattle.ocm_serve_store.specs.Following.{store_of}
+use Rattle.ocm_serve_store.specs.declared.followed.Origin.{Origin}
+use Rattle.ocm_serve_store.proofs.Answering.{came-since, legal-since, origin-stays, stands-since}
+use Rattle.ocm_store.specs.Stores.{host_of}
+use Rattle.ocm_serve_log.specs.Logs.{Holds, lines_since}
+use Rattle.ocm_serve_log.proofs.Told.{lines_more, loggable_more}
+use Rattle.ocm_serve_log.proofs.logged.LoggedStore.try_answer.Goals as goal
+
+pub returns-in-Ok-clause-replied : goal.returns-in-Ok-clause-replied
+returns-in-Ok-clause-replied g c =
+    let ask = c.args.ask in
+    let reply = c.in-Ok.reply in
+    let old = c.args.self.now.followed in
+    let new = c.try_answer.new.self in
+    let did = c.in-Ok.ensures.replied in
+    let born = c.in-Ok.ensures.born in (
+      did.1,
+      λ k h s legal.
+          let place = c.kept-place.result in
+          let time = c.moment-moment.result in
+          let host = host_of (store_of old) in
+          let at = c.kept-place.ensures k h s.0.0 in
+          let now = c.moment-moment.ensures k h s.0.0 in
+          let noted = c.note.ensures place time ask (c.text_of_read-read.ensures.other, c.text_of_read-read.ensures.text) _ s.1 in
+          let written = subst (λ (l : List LogLine). Holds g.K.Sink.taken g.K.Sink.faults c.pass.new.self l) (sym (lines_more host k h ask reply place time at now)) (c.pass.ensures.holds _ noted) in
+          let more = loggable_more host k h ask reply place time at now c.text_of_read-read.ensures.loggable s.2 in
+          let logged = subst (λ (h2 : List ℕ). Holds g.K.Sink.taken g.K.Sink.faults c.pass.new.self (lines_since h2 k (record { ask = ask; reply = reply } ∷ h)) × AllByRecursion IsLoggable (lines_since h2 k (record { ask = ask; reply = reply } ∷ h)))
+          (ap (λ (o : Origin g.row.D.Denot g.D.Disk). o.terms.host) (sym (origin-stays g.D.Disk old new ask reply did.0 born))) (written, more) in
+          ((stands-since g.D.Disk old new ask reply did.0 born k h s.0 legal, logged.0, logged.1), legal-since g.D.Disk old new ask reply did.0 born k h s.0 legal, came-since g.D.Disk old new ask reply did.0 born k h),
+    )
