@@ -36,7 +36,7 @@ use Rattle.ocm_server_connections.specs.declared.endings.Ended.{Ended}
 use Rattle.ocm_server_connections.specs.declared.endings.Missed.{Missed}
 use Rattle.ocm_server_connections.specs.declared.endings.Missed.TheVariants as misses
 use Rattle.ocm_server_rounds.specs.Rounds as rounds
-use Rattle.ocm_server_rounds.specs.Rounds.{Deliveries, Does, Hold, Round, Tries, hold, messages_of, settlement}
+use Rattle.ocm_server_rounds.specs.Rounds.{Deliveries, Does, Hold, Round, Tries, hold, messages_of}
 use Rattle.ocm_server_rounds.specs.declared.pumped.Pumped.{Pumped}
 use Rattle.ocm_server_rounds.specs.declared.pumped.RoundEnd.{RoundEnd}
 use Rattle.ocm_server.specs.Visits.{Behind, Desk, Visit, Visits}

@@ -23,7 +23,7 @@ use Rattle.ocm_pump.specs.Replies.{IsReply}
 use Rattle.ocm_pump.specs.declared.deliveries.Answered.{Answered}
 use Rattle.ocm_server_connections.specs.Sides.{IsFront, IsRequests}
 use Rattle.ocm_server_connections.specs.Talk as talks
-use Rattle.ocm_server_connections.specs.Talk.{Answers, EndsWith, Replied, Shown, Stops, Talk, Tries, counted, ending_after, is_done, no_memory, ticked, wanted_at}
+use Rattle.ocm_server_connections.specs.Talk.{Answers, EndsWith, Replied, Shown, Stops, Talk, Tries, counted, ending_after, no_memory, ticked, wanted_at}
 use Rattle.ocm_server_connections.specs.Talk.Talk.{silent, last, next}
 use Rattle.ocm_server_connections.specs.declared.endings.Ended.{Ended}
 use Rattle.ocm_server_connections.specs.declared.endings.Ended.TheVariants as endings

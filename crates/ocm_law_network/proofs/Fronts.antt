@@ -10,7 +10,7 @@ use Rattle.ocm_http_heads.specs.declared.lengths.Length.TheVariants as lengths
 use Rattle.ocm_http_heads.specs.declared.lengths.LengthFault.{LengthFault}
 use Rattle.ocm_http_heads.proofs.Looks.{whole_stays, whole_within}
 use Rattle.ocm_http.specs.Frames as frames
-use Rattle.ocm_http.specs.Frames.{Bodied, Chunks, Ended, Frame, Given, Headed, IsFrame, Refused, Awaited, Over, headless, is_bare, sized, to_end, trailers_end, unfinished}
+use Rattle.ocm_http.specs.Frames.{Bodied, Chunks, Ended, Frame, Given, IsFrame, Refused, Awaited, Over, headless, is_bare, to_end, trailers_end, unfinished}
 use Rattle.ocm_http.specs.Messages.{SaysHead, length_of, more_of}
 use Rattle.ocm_http.specs.Places.{past}
 use Rattle.ocm_http.specs.ReadBack.{ReadsAs}

@@ -5,7 +5,6 @@ ghost use Rattle.ocm_types.specs.declared.letters.Offer.{Offer};
 ghost use Rattle.ocm_types.specs.declared.phases.Phase.TheVariants.{Confirmed};
 ghost use Rattle.ocm_entry.specs.declared.asks.Ask.TheVariants.{Dav};
 ghost use Rattle.ocm_entry.specs.declared.asks.Method.{Method};
-ghost use Rattle.ocm_entry.specs.declared.entries.Entry.{Entry};
 ghost use Rattle.ocm_entry.specs.declared.refusals.Why.TheVariants.{Unauthorized};
 ghost use Rattle.ocm_entry.specs.declared.replies.Reply.{Reply};
 ghost use Rattle.ocm_entry.specs.declared.replies.Reply.TheVariants.{NoMemory};

@@ -5,7 +5,6 @@ use Rattle.std.specs.Option.{option_map_or}
 use Rattle.std.proofs.lemmas.Bool.{false≢true}
 use Rattle.ocm_access_log.specs.Lines.{is_reading}
 use Rattle.ocm_access_log.specs.Truth.{status_of}
-use Rattle.ocm_access_log.specs.declared.lines.LogLine.{LogLine}
 use Rattle.ocm_entry.specs.declared.asks.Ask.{Ask}
 use Rattle.ocm_entry.specs.declared.asks.Ask.TheVariants as asks
 use Rattle.ocm_entry.specs.declared.asks.Method.{Method}
@@ -18,7 +17,7 @@ use Rattle.ocm_law_sessions.specs.Sessions.{heard, would_change}
 use Rattle.ocm_rules.specs.History.{changes, changes_in, kept, writes}
 use Rattle.ocm_rules.specs.Messages.{view_of}
 use Rattle.ocm_rules.specs.Views.{View}
-use Rattle.ocm_serve_log.specs.Logs.{line_of, lines_since, reads}
+use Rattle.ocm_serve_log.specs.Logs.{lines_since, reads}
 
 -- no method that reads writes
 not-writing : (method : Method) → is_reading method ≡ true → writes method ≡ false

@@ -1,5 +1,5 @@
 -- What is taken to change nothing changes nothing, unless it is a tick.
-use Rattle.std.proofs.Common.{◌≡◌, ◌∙◌, ℕ, List, Bool, true, false, refl, sym}
+use Rattle.std.proofs.Common.{◌≡◌, ℕ, List, Bool, true, false, refl, sym}
 use Rattle.std.proofs.lemmas.Bool.{false≢true}
 use Rattle.ocm_entry.specs.Ticks.{is_tick}
 use Rattle.ocm_entry.specs.declared.asks.Ask.{Ask}
@@ -9,7 +9,7 @@ use Rattle.ocm_entry.specs.declared.entries.Entry.{Entry}
 use Rattle.ocm_entry.specs.declared.replies.Reply.{Reply}
 use Rattle.ocm_entry.specs.declared.replies.Reply.TheVariants as replies
 use Rattle.ocm_law_sessions.specs.Sessions.{heard, would_change}
-use Rattle.ocm_rules.specs.History.{changes_in, is_change, kept, writes}
+use Rattle.ocm_rules.specs.History.{changes_in, kept}
 use Rattle.ocm_rules.specs.Messages.{view_of}
 use Rattle.ocm_rules.specs.Views.{View}
 use Rattle.ocm_serve_store.specs.Asking.{may_change}

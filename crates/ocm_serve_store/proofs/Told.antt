@@ -8,7 +8,7 @@ use Rattle.ocm_journal.proofs.Moving.{joined, weaker}
 use Rattle.ocm_server.specs.Objects.{Begins, Past, Service}
 use Rattle.ocm_server.specs.declared.served.Served.{Served}
 use Rattle.ocm_server.specs.declared.served.Served.TheVariants.{Ended, DoorFault, DiskFault, NotJournal, OtherHost, NoMemory}
-use Rattle.ocm_serve_store.specs.Following.{CameSince, IsLegalSince, StandsSince, mark_in, origin_of, store_of}
+use Rattle.ocm_serve_store.specs.Following.{CameSince, IsLegalSince, StandsSince, origin_of, store_of}
 use Rattle.ocm_serve_store.specs.Runs.{HasServed, IsCounted, IsDiskFault, IsLoaded, IsOpenedTo, IsSaid, WasServed, KeepsDone, KeepsSince, LeavesInRun, as_served}
 use Rattle.ocm_serve_store.specs.declared.followed.Followed.{Followed}
 use Rattle.ocm_serve_store.specs.declared.followed.Origin.{Origin}

@@ -12,7 +12,7 @@ ghost use Rattle.ocm_serve_store.specs.Asking as asking;
 ghost use Rattle.ocm_serve_store.specs.Following.{HasToWait, mark_in, store_in, store_of};
 ghost use Rattle.ocm_law_sessions.specs.Sessions.{would_change};
 ghost use Rattle.ocm_store.specs.Acts.{Acts, StandsLegally};
-ghost use Rattle.ocm_store.specs.Parting.{IsFor, mark_of, mark_of_front};
+ghost use Rattle.ocm_store.specs.Parting.{IsFor, mark_of};
 ghost use Rattle.ocm_store.specs.Stores.{Stands, host_of};
 ghost use Rattle.ocm_turn.specs.Begun.{IfReplied, IfApart, IfBusy};
 

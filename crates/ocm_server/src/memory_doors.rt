@@ -1,7 +1,6 @@
 //! Doors in memory.
 
-ghost use Rattle.std.specs.Prelude.{◌≡◌, ◌≤◌, ◌+◌, [], ◌++◌, Some, None, IfOk, IfSome, OnErr, IsOk, drop, slice_get, option_map, reverse};
-ghost use Rattle.ocm_base.specs.Outside.{Rose};
+ghost use Rattle.std.specs.Prelude.{◌≡◌, ◌≤◌, ◌+◌, [], ◌++◌, Some, None, IfOk, IfSome, IsOk, drop, slice_get, reverse};
 ghost use Rattle.ocm_server.specs.Doors.{given, came_back, over, IsOut};
 
 use crate::doors::Door;

@@ -2,8 +2,8 @@
 use Rattle.std.specs.Prelude.{⊤}
 use Rattle.ocm_entry.specs.declared.asks.Ask.{Ask}
 use Rattle.ocm_entry.specs.declared.replies.Reply.{Reply}
-use Rattle.ocm_turn.specs.declared.board.Tried.{Tried}
-use Rattle.ocm_turn.specs.declared.board.Tried.TheVariants.{Over, Refused, Again}
+use Rattle.ocm_turn.specs.declared.calling.Tried.{Tried}
+use Rattle.ocm_turn.specs.declared.calling.Tried.TheVariants.{Over, Refused, Again}
 use Rattle.ocm_turn.specs.declared.dated.Begun.{Begun}
 use Rattle.ocm_turn.specs.declared.dated.Begun.TheVariants.{Replied, Apart, Busy}
 

@@ -1,7 +1,7 @@
 //! Many threads, one value, one history.
 //!
-//! A [`Turnstile`] stands in front of a value that answers one ask at a time. Callers draw tickets and
-//! take their turns at it, so the replies of all of them are those of one legal history, in which each
+//! A [`Turnstile`] stands in front of a value that answers one ask at a time. Its callers take turns, each
+//! once no other goes on, so the replies of all of them are those of one legal history, in which each
 //! call stands once. A call that has work to do, as a write that takes long, takes two turns and does
 //! it between them. Other callers have their turns meanwhile, and one such call goes on at a time. A
 //! caller that waits sleeps. Behind each call stands a moment of the value, of which the value's own
@@ -13,7 +13,9 @@
 #![tactic(auto)]
 
 mod behind;
+mod bells;
 mod board;
+mod calling;
 mod dated;
 pub mod laws;
 mod pass;

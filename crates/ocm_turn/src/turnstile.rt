@@ -27,9 +27,9 @@ pub struct Shut<T> {
 
 /// A value that many threads call, one after another.
 ///
-/// Each call draws a ticket and waits for its turn. One that has work to do apart takes a second turn
-/// behind it, and one that has to wait for another's work draws again. Whatever order the callers come
-/// in, all replies are those of one legal history. Threads share a turnstile by reference, and each has
+/// Each call waits until no turn goes on, and takes one. One that has work to do apart takes a second turn
+/// behind it, and one that has to wait for another's work takes its turn anew. Whatever order the callers
+/// come in, all replies are those of one legal history. Threads share a turnstile by reference, and each has
 /// a [`Pass`] of its own.
 pub struct Turnstile<T: Dated> {
     board: TurnTable<T>,

@@ -1,5 +1,3 @@
-ghost use Rattle.std.specs.Prelude.{◌≡◌};
-
 use ocm_entry::Entry;
 use std::collections::LinkedList;
 

@@ -1,5 +1,4 @@
 use Rattle.std.proofs.Common.{◌≡◌, ◌++◌, List, true, sym, subst, Some}
-use Rattle.ocm_entry.specs.declared.asks.Ask.{Ask}
 use Rattle.ocm_entry.specs.declared.entries.Entry.{Entry}
 use Rattle.ocm_law_sessions.specs.Sessions.{would_change}
 use Rattle.ocm_serve_store.specs.Following.{mark_in, store_in}

@@ -1,4 +1,4 @@
-use Rattle.std.proofs.Common.{◌≡◌, List, ℕ, ◌∷◌, ◌++◌, ap, sym, subst}
+use Rattle.std.proofs.Common.{List, ℕ, ◌∷◌, ap, sym, subst}
 use Rattle.std.specs.List.{AllByRecursion}
 use Rattle.ocm_access_log.specs.Written.{IsLoggable}
 use Rattle.ocm_access_log.specs.declared.lines.LogLine.{LogLine}

@@ -2,8 +2,8 @@ use Rattle.std.proofs.Common.{rules}
 use Rattle.ocm_turn.proofs.FinishKeeps.{finishes_keep}
 use Rattle.ocm_turn.proofs.board.TurnTable.finish.Goals as goal
 
-pub fetch_add-over-requires : goal.fetch_add-over-requires
-fetch_add-over-requires g c =
+pub fetch_add-requires : goal.fetch_add-requires
+fetch_add-requires g c =
     let t = c.requires.turn in (
       search rules,
       search rules,

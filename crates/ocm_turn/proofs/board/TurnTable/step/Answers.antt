@@ -1,5 +1,5 @@
 use Rattle.std.proofs.Common.{rules, ◌≡◌, ◌≢◌, ℕ, List, ◌∷◌, sym, refl, ◌∙◌, ap, subst, Option, Some, None}
-use Rattle.std.specs.Prelude.{Result, Ok, Err, IfOk, IfErr}
+use Rattle.std.specs.Prelude.{Result, IfOk, IfErr}
 use Rattle.atomic_table.specs.Table.{rest}
 use Rattle.ocm_turn.specs.declared.behind.Behind.{Behind}
 use Rattle.ocm_entry.specs.declared.asks.Ask.{Ask}
