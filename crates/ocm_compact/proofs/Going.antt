@@ -29,7 +29,7 @@ use Rattle.ocm_law_alike.specs.Others.{is_aside, others}
 use Rattle.ocm_compact.specs.declared.replays.Replay.{Replay}
 use Rattle.ocm_compact.specs.Replays.{GoesOn, IsReplayOf, home_of, opened_by, refused_by, with_clock}
 use Rattle.ocm_compact.specs.Texts.{AllFit, dated_text, dated_texts, noted}
-use Rattle.ocm_compact.proofs.Taking.{told}
+use Rattle.ocm_core.proofs.Taking.{told}
 
 -- ---- by an ask
 

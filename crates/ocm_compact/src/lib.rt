@@ -10,9 +10,7 @@ mod comparing;
 mod dated;
 mod faults;
 mod images;
-mod refusing;
 mod replays;
-mod stepping;
 
 pub use compacting::compact;
 pub use faults::CompactFault;

@@ -9,7 +9,6 @@ ghost use Rattle.ocm_law_sessions.specs.Readings.{goes_on, opened, with_ask, wit
 ghost use Rattle.ocm_compact.specs.Replays.{GoesOn, HasSpelledAsk, IsReplayOf, home_of, opened_by, refused_by, with_clock};
 
 use crate::dated::note;
-use crate::stepping::take;
 use ocm_base::{Bytes, List, NoMemory};
 use ocm_core::Core;
 use ocm_entry::Ask;
@@ -49,7 +48,7 @@ impl Replay {
         ensures goes_on { IfOk result (GoesOn self.old self.new (with_ask (home_of self.old) ask.now)) }
     {
         let clock = self.core.moment();
-        let taken = take(&mut self.core, ask)?;
+        let taken = self.core.take(ask)?;
         if !taken {
             return Ok(false);
         }

@@ -1,3 +1,4 @@
 pub mod Standing
 pub mod Numbers
 pub mod Reached
+pub mod Taking

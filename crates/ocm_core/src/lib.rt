@@ -2,7 +2,8 @@
 //!
 //! An ask is answered in three steps, so that what must not fail can come last: [`Core::answer`] plans
 //! the reply and the change and leaves the state alone, [`Core::room`] takes the memory that the change
-//! needs, and [`Core::apply`] makes the change, which takes none.
+//! needs, and [`Core::apply`] makes the change, which takes none. [`Core::take`] does all three for an ask that was
+//! answered once.
 #![tactic(auto)]
 
 pub mod laws;

@@ -1,4 +1,4 @@
-ghost use Rattle.std.specs.Prelude.{◌≡◌, ◌≤◌, ◌<◌, ◌∷◌, [], ℕ, length, IfOk, OnOk, List, Some, IsTrue, false, option_copied, option_map};
+ghost use Rattle.std.specs.Prelude.{◌≡◌, ◌≢◌, ◌≤◌, ◌<◌, ◌∷◌, [], length, IfOk, OnOk, List, Ok, Some, IsTrue, false, true, option_copied, option_map};
 ghost use Rattle.ocm_entry.specs.declared.asks.Ask.{Ask};
 ghost use Rattle.ocm_entry.specs.declared.entries.Entry.{Entry};
 ghost use Rattle.ocm_entry.specs.Proper.{is_proper};
@@ -7,7 +7,7 @@ ghost use Rattle.ocm_rules.specs.Messages.{as_sent, out};
 ghost use Rattle.ocm_rules.specs.Numbers.{at_number};
 ghost use Rattle.ocm_rules.specs.Shares.{moment};
 ghost use Rattle.ocm_rules.specs.State.{empty_of, view_in};
-ghost use Rattle.ocm_tables.specs.Changes.{HasNumbers, HasRoom, changed, is_kept};
+ghost use Rattle.ocm_tables.specs.Changes.{HasNumbers, HasRoom, is_kept};
 ghost use Rattle.ocm_tables.specs.Tables.{GrantCost};
 ghost use Rattle.ocm_plan.specs.Plans.{Plans};
 ghost use Rattle.ocm_core.specs.Looks.{may_look_beside};
@@ -200,6 +200,49 @@ impl Core {
         let (reply, change, sent) = planned.into_parts();
         self.tables.apply(change, sent);
         reply
+    }
+
+    /// Goes on by an ask with its answer, as a history that was written down does. False where it would change nothing, and
+    /// then all stays.
+    pub fn take(&mut self, ask: &Ask) -> Result<bool, NoMemory>
+        requires { IsTrue (is_proper ask.now) }
+        ensures taken { IfOk result (λ taken. (g : List Entry) → IsAfter self.old.state g
+            → taken ≡ changes self.old.state.host (kept self.old.state.host g) (record { ask = ask.now; reply = answer self.old.state.host g ask.now })) }
+        ensures goes_on { (g : List Entry) → IsAfter self.old.state g → result ≡ Ok true
+            → IsAfter self.new.state (record { ask = ask.now; reply = answer self.old.state.host g ask.now } ∷ g) }
+        ensures stays { result ≢ Ok true → self.new.state ≡ self.old.state }
+        ensures home { self.new.state.host ≡ self.old.state.host }
+    {
+        match self.answer(ask) {
+            Ok(planned) => self.take_planned(planned),
+            Err(NoMemory) => Err(NoMemory),
+        }
+    }
+
+    /// Makes what is planned, for which no room was taken yet. False where it changes nothing. The plan is one for this state.
+    fn take_planned(&mut self, planned: Planned) -> Result<bool, NoMemory>
+        requires { IsPlanned self.old.state planned }
+        ensures taken { IfOk result (λ taken. (g : List Entry) (ask : Ask) → IsAfter self.old.state g → Plans self.old.state ask planned
+            → taken ≡ changes self.old.state.host (kept self.old.state.host g) (record { ask = ask; reply = planned.reply })) }
+        ensures goes_on { (g : List Entry) (ask : Ask) → IsAfter self.old.state g → Plans self.old.state ask planned → result ≡ Ok true
+            → IsAfter self.new.state (record { ask = ask; reply = planned.reply } ∷ g) }
+        ensures stays { result ≢ Ok true → self.new.state ≡ self.old.state }
+        ensures home { self.new.state.host ≡ self.old.state.host }
+    {
+        if !planned.changes() {
+            drop(planned.into_reply());
+            return Ok(false);
+        }
+        match self.room(&planned) {
+            Ok(()) => {
+                drop(self.apply(planned));
+                Ok(true)
+            }
+            Err(NoMemory) => {
+                drop(planned.into_reply());
+                Err(NoMemory)
+            }
+        }
     }
 }
 

@@ -1,3 +1,4 @@
 pub mod Framing
 pub mod Sending
 pub mod Telling
+pub mod OwnHosts

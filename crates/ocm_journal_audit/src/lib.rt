@@ -11,4 +11,6 @@ mod writing;
 
 pub use audits::audit;
 pub use faults::AuditFault;
+pub use labels::own_host;
 pub use laws::an_audit_tells_one_thing;
+pub use testing::first_refused;

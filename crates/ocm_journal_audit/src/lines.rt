@@ -1,4 +1,4 @@
-ghost use Rattle.std.specs.Prelude.{◌≡◌, ◌++◌, length, OnOk, IfOk};
+ghost use Rattle.std.specs.Prelude.{◌≡◌, ◌++◌, OnOk, IfOk};
 ghost use Rattle.std.specs.Fmt.{decimal};
 ghost use Rattle.ocm_journal_audit.specs.Audits.{end_line, host_line, kind_in, line_of};
 ghost use Rattle.ocm_journal_records.specs.Stamps.{stamped_of};

@@ -1,9 +1,8 @@
 -- Which lines are true of the empty list.
-use Rattle.std.proofs.Common.{◌≡◌, ℕ, ◌+◌, ◌<◌, ◌≤◌, List, [], ◌∷◌, length, drop, get_or, Bool, true, false, ◌&&◌, refl, sym, ap, ◌∙◌, arith, Option, Some, None}
+use Rattle.std.proofs.Common.{◌≡◌, ℕ, ◌+◌, List, [], Bool, true, false, ◌&&◌, refl, sym, ap, ◌∙◌, arith, Option, Some, None}
 use Rattle.std.specs.Prelude.{if◌then◌else◌, nat_eq, nat_le, unwrap_or}
 use Rattle.std.specs.Option.{option_map_or}
 use Rattle.std.proofs.lemmas.Bool.Decides.{nat_tests}
-use Rattle.std.proofs.lemmas.List.{drop_all, drop_more}
 use Rattle.ocm_entry.specs.declared.asks.Ask.{Ask}
 use Rattle.ocm_entry.specs.declared.asks.Ask.TheVariants.{Dav}
 use Rattle.ocm_entry.specs.declared.entries.Entry.{Entry}
@@ -14,8 +13,7 @@ use Rattle.ocm_rules.specs.History.{answer_kept}
 use Rattle.ocm_law_sessions.specs.Readings.{with_moment}
 use Rattle.ocm_access_log.specs.declared.lines.LogLine.{LogLine}
 use Rattle.ocm_access_log.specs.Reads.{is_read}
-use Rattle.ocm_access_log.specs.Truth.{end_of, has_status, is_true, is_true_after, prefix_at}
-use Rattle.ocm_logcheck.specs.Replays.{count_true}
+use Rattle.ocm_access_log.specs.Truth.{end_of, has_status, is_true, is_true_after}
 
 -- where there is no user, no secret is known
 none-answer : (host : List ℕ) (ask : Ask) → is_read ask ≡ true → answer_kept host [] ask ≡ Refused Unauthorized

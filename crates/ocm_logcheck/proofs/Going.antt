@@ -1,6 +1,6 @@
 -- How a replay goes on by records.
-use Rattle.std.proofs.Common.{◌≡◌, ℕ, ◌+◌, ◌<◌, ◌≤◌, nat_lt, List, [], ◌∷◌, ◌++◌, length, take, drop, get_or, suc, append_assoc, zero-add, Bool, true, false, refl, sym, ap, ◌∙◌, subst, arith, Option, Some, None, Result, Ok, Err}
-use Rattle.std.specs.Prelude.{IfOk, if◌then◌else◌, nat_le, option_and_then}
+use Rattle.std.proofs.Common.{◌≡◌, ℕ, ◌+◌, ◌<◌, ◌≤◌, nat_lt, List, [], ◌∷◌, ◌++◌, length, take, drop, get_or, suc, append_assoc, Bool, true, false, refl, sym, ap, ◌∙◌, subst, arith, Option, Some, None, Ok}
+use Rattle.std.specs.Prelude.{if◌then◌else◌, nat_le, option_and_then}
 use Rattle.std.proofs.lemmas.Bool.Decides.{nat_tests}
 use Rattle.std.proofs.lemmas.List.{map-append, take_more}
 use Rattle.std.proofs.Math.Seq.{split_at, take-length}
@@ -14,7 +14,7 @@ use Rattle.ocm_rules.specs.History.{IsAnswered, changes}
 use Rattle.ocm_rules.specs.Lean.{count}
 use Rattle.ocm_entry.specs.Ticks.{is_tick}
 use Rattle.ocm_rules.specs.Shares.{clock_of, moment}
-use Rattle.ocm_rules.specs.State.{State, empty_of}
+use Rattle.ocm_rules.specs.State.{State}
 use Rattle.ocm_tables.specs.Tables.{ServerLists}
 use Rattle.ocm_core.specs.Standing.{IsAfter}
 use Rattle.ocm_journal_records.specs.Stamps.{stamped_of}
@@ -22,18 +22,17 @@ use Rattle.ocm_journal_records.specs.declared.stamps.Stamped.{Stamped}
 use Rattle.ocm_journal_records.specs.declared.stamps.Stamped.TheVariants as stamps
 use Rattle.ocm_law_sessions.specs.Readings.{entry_after, goes_on, opened, refused_at, with_ask, with_moment, with_stamped}
 use Rattle.ocm_law_sessions.specs.Sessions.{heard, would_change}
-use Rattle.ocm_law_sessions.proofs.Entries.{moment-other, with_moment-stays}
+use Rattle.ocm_law_sessions.proofs.Entries.{moment-other}
 use Rattle.ocm_law_sessions.proofs.Opening.{opened-more, refused-first}
 use Rattle.ocm_law_sessions.proofs.Stamping.{goes_on-said}
 use Rattle.ocm_access_log.specs.declared.lines.LogLine.{LogLine}
-use Rattle.ocm_access_log.specs.Reads.{AreLogged, AreLoggedFrom}
+use Rattle.ocm_access_log.specs.Reads.{AreLoggedFrom}
 use Rattle.ocm_logcheck.specs.declared.replays.Replay.{Replay}
 use Rattle.ocm_logcheck.specs.declared.faults.LogFault.{LogFault}
-use Rattle.ocm_logcheck.specs.declared.faults.LogFault.TheVariants.{NotJournal}
 use Rattle.ocm_logcheck.specs.Steps.{IsBehind, up_to_ask, with_clock}
-use Rattle.ocm_logcheck.specs.Replays.{Extends, GivesCount, GoesOn, IsLookedUp, IsOver, IsReplayOf, StandsAt, count_true, lines_left}
+use Rattle.ocm_logcheck.specs.Replays.{Extends, GivesCount, GoesOn, IsLookedUp, IsOver, IsReplayOf, lines_left}
 use Rattle.ocm_logcheck.proofs.Prefixes.{count-ask, count-tick, up_to-ask}
-use Rattle.ocm_logcheck.proofs.Behind.{behind-ask, behind-there, would-whole, whole-clock}
+use Rattle.ocm_logcheck.proofs.Behind.{behind-ask, behind-there, would-whole}
 use Rattle.ocm_logcheck.proofs.Looking.{looked-all}
 
 -- ---- the asks that are no ticks

@@ -5,5 +5,4 @@ pub mod Taking
 pub mod Looking
 pub mod Going
 pub mod EmptyLists
-pub mod Labels
 pub mod Telling

@@ -1,5 +1,5 @@
 -- What a look-up of lines finds.
-use Rattle.std.proofs.Common.{◌≡◌, ℕ, zero, suc, nat_lt, ◌+◌, ◌<◌, ◌≤◌, List, [], ◌∷◌, length, drop, get_or, Bool, true, false, ◌&&◌, refl, sym, ap, ◌∙◌, subst, arith, Option, Some, None, IsTrue, max}
+use Rattle.std.proofs.Common.{◌≡◌, ℕ, zero, suc, nat_lt, ◌+◌, ◌<◌, ◌≤◌, List, [], ◌∷◌, length, drop, get_or, Bool, true, false, ◌&&◌, refl, sym, ap, ◌∙◌, subst, arith, Option, Some, None, IsTrue}
 use Rattle.std.specs.Prelude.{if◌then◌else◌, nat_eq, nat_le}
 use Rattle.std.specs.Option.{option_map_or}
 use Rattle.std.proofs.lemmas.Bool.{le-leb}
@@ -19,7 +19,7 @@ use Rattle.ocm_access_log.specs.Reads.{AreLoggedFrom, is_read}
 use Rattle.ocm_access_log.specs.Truth.{end_of, has_status, is_true, is_true_after, prefix_at}
 use Rattle.ocm_logcheck.specs.declared.replays.Replay.{Replay}
 use Rattle.ocm_logcheck.specs.Steps.{IsBehind, is_true_until, up_to_ask}
-use Rattle.ocm_logcheck.specs.Replays.{IsLookedUp, IsOver, StandsAt, count_true, lines_left, next_at}
+use Rattle.ocm_logcheck.specs.Replays.{IsLookedUp, IsOver, count_true, lines_left, next_at}
 use Rattle.ocm_logcheck.proofs.Prefixes.{Ends, over-ends, prefix-above}
 use Rattle.ocm_logcheck.proofs.Behind.{behind-low}
 

@@ -13,7 +13,7 @@ use Rattle.ocm_rules.proofs.Lists.{count_by-cons}
 use Rattle.ocm_law_sessions.proofs.Entries.{answered-kept, moment-other}
 use Rattle.ocm_access_log.specs.Truth.{end_of, if_counts, prefix_at}
 use Rattle.ocm_logcheck.specs.Steps.{up_to_ask}
-use Rattle.ocm_logcheck.specs.Replays.{Extends, IsOver}
+use Rattle.ocm_logcheck.specs.Replays.{IsOver}
 
 -- ---- one entry more
 

@@ -7,10 +7,11 @@ ghost use Rattle.ocm_law_sessions.specs.Readings.{refused_at};
 
 use crate::blanks::count_true_of_none;
 use crate::faults::LogFault;
-use crate::refusing::{first_refused, own_host};
+use crate::refusing::first_refused;
 use crate::replays::count_true;
 use ocm_access_log::{LogReadFault, read_log};
 use ocm_base::and;
+use ocm_journal_audit::own_host;
 use ocm_journal_image::{Image, ImageFault, read_blank_for_any, read_image};
 use ocm_types::Host;
 use std::alloc::Global;

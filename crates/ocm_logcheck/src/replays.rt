@@ -2,9 +2,7 @@
 ghost use Rattle.std.specs.Prelude.{◌≡◌, ◌≤◌, ◌<◌, ◌+◌, ℕ, List, [], length, option_copied, Ok, Err, IfOk, IfErr, OnOk, IfSome, IsTrue, None, true, if◌then◌else◌};
 ghost use Rattle.ocm_entry.specs.declared.entries.Entry.{Entry};
 ghost use Rattle.ocm_entry.specs.Proper.{is_proper};
-ghost use Rattle.ocm_journal_records.specs.Stamps.{stamped_of};
 ghost use Rattle.ocm_journal_records.specs.declared.stamps.Stamped.TheVariants as stamps;
-ghost use Rattle.ocm_journal_image.specs.Layout.{contents};
 ghost use Rattle.ocm_rules.specs.Lean.{count};
 ghost use Rattle.ocm_rules.specs.Shares.{clock_of};
 ghost use Rattle.ocm_law_sessions.specs.Readings.{goes_on, with_ask, with_stamped};
@@ -14,7 +12,7 @@ ghost use Rattle.ocm_logcheck.specs.Steps.{with_clock};
 ghost use Rattle.ocm_logcheck.specs.Replays.{GivesCount, GoesOn, IsLookedUp, IsReplayOf, lines_left, next_at};
 
 use crate::faults::LogFault;
-use crate::stepping::{clock_of, look_up, take, take_moment};
+use crate::stepping::{clock_of, look_up, take_moment};
 use ocm_access_log::LogLine;
 use ocm_base::NoMemory;
 use ocm_core::Core;
@@ -153,7 +151,7 @@ impl Replay {
     {
         self.look_up_place(lines)?;
         take_moment(&mut self.core, self.moment)?;
-        let taken = take(&mut self.core, ask)?;
+        let taken = self.core.take(ask)?;
         if taken {
             self.place += 1;
         }

@@ -43,4 +43,4 @@ left_after host request now kept = if asks_document request then kept else witho
 
 -- the replies with room for one more: without the oldest, where there are as many as may be
 abbrev pub with_room : List Kept → List Kept
-with_room kept = if nat_le 128 (length kept) then remove kept 0 else kept
+with_room kept = if nat_le 512 (length kept) then remove kept 0 else kept

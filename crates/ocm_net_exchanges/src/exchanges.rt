@@ -102,7 +102,7 @@ impl<'a, R: Wait + time::Clock> Exchanges<'a, R> {
     fn kept(&self, host: &str, request: &Bytes) -> Result<Option<Bytes>, ExchangeFault> {
         let now = millis(self.rt);
         let mut guard = self.table.lock(self.rt);
-        guard.take(host, request.as_slice(), now)
+        guard.take(self.alloc, host, request.as_slice(), now)
     }
 
     /// The place at which an exchange that begins is waited for.

@@ -4,8 +4,8 @@ use std::alloc::Global;
 use std::collections::HashMap;
 use std::fmt;
 
-/// How many hosts are known at most.
-const MOST_HOSTS: usize = 4_096;
+/// How many hosts are known one by one.
+const MOST_HOSTS: usize = 65_536;
 
 /// How long a host is left alone that failed once, in milliseconds.
 const FIRST_PAUSE: u64 = 1_000;
@@ -32,7 +32,13 @@ pub struct Noted {
     /// When the first exchange of those ended that were of no use since, in milliseconds.
     since: u64,
     /// How many these are.
-    pub tries: u32,
+    tries: u32,
+    /// The last round in which a message waited for it.
+    round: u64,
+    /// How many messages waited for it in that round, so far.
+    waiting: u32,
+    /// How many waited for it in the round before that.
+    waited: u32,
     /// Whether an exchange with it goes on.
     pub is_tried: bool,
     /// Whether it ever replied.
@@ -49,6 +55,9 @@ impl Noted {
             pause: 0,
             since: 0,
             tries: 0,
+            round: 0,
+            waiting: 0,
+            waited: 0,
             is_tried: false,
             has_answered: false,
             is_told: false,
@@ -58,6 +67,26 @@ impl Noted {
     /// Whether its last exchange was of no use.
     pub fn is_failing(&self) -> bool {
         self.tries > 0
+    }
+
+    /// Counts a message that waits for it in a round.
+    fn count(&mut self, round: u64) {
+        if self.round != round {
+            self.round = round;
+            self.waited = self.waiting;
+            self.waiting = 0;
+        }
+        self.waiting = self.waiting.saturating_add(1);
+    }
+
+    /// How many messages wait for it. A round that is not over may not have counted all of them.
+    fn messages(&self) -> u32 {
+        self.waiting.max(self.waited)
+    }
+
+    /// Whether it may be forgotten: it is left alone no longer, and no exchange with it goes on.
+    fn is_over(&self, now: u64) -> bool {
+        !self.is_tried && self.until <= now
     }
 
     /// How long it is left alone that fails now again.
@@ -77,6 +106,11 @@ impl Noted {
         }
         self.pause = self.next_pause(now);
         self.until = now.saturating_add(self.pause);
+        let told = self.since.saturating_add(TOLD_FROM);
+        if now < told {
+            // The try at that time decides whether it is told.
+            self.until = self.until.min(told);
+        }
         self.tries = self.tries.saturating_add(1);
         let is_news = !self.is_told && now.saturating_sub(self.since) >= TOLD_FROM;
         self.is_told = self.is_told || is_news;
@@ -97,11 +131,19 @@ impl Noted {
 /// The hosts that are known.
 pub struct Hosts {
     noted: HashMap<String, Noted>,
+    /// What is known of all hosts together for which there is no room.
+    others: Noted,
+    /// Until when none of those that are known one by one may be forgotten, in milliseconds.
+    full: u64,
 }
 
 impl Drop for Hosts {
     fn drop(self) {
-        let Hosts { noted: _ } = self;
+        let Hosts {
+            noted: _,
+            others: _,
+            full: _,
+        } = self;
     }
 }
 
@@ -110,6 +152,8 @@ impl Hosts {
     pub fn new(alloc: Global) -> Hosts {
         Hosts {
             noted: HashMap::new(alloc),
+            others: Noted::new(),
+            full: 0,
         }
     }
 
@@ -117,93 +161,113 @@ impl Hosts {
     pub fn at(&self, host: &str) -> Noted {
         match self.noted.get(host) {
             Some(noted) => *noted,
-            None => Noted::new(),
+            None => self.of_unknown(),
         }
     }
 
-    /// Knows this of a host. Without memory a new one stays unknown.
-    fn put(&mut self, alloc: Global, host: &str, noted: Noted) {
+    /// What is known of a host that is none of those that are known one by one.
+    fn of_unknown(&self) -> Noted {
+        if self.noted.len() < MOST_HOSTS {
+            Noted::new()
+        } else {
+            self.others
+        }
+    }
+
+    /// What is known of a host for which a message waits in a round, which is counted.
+    pub fn waited_for(&mut self, host: &str, round: u64) -> Noted {
+        match self.noted.get_mut(host) {
+            Some(noted) => {
+                noted.count(round);
+                *noted
+            }
+            None => self.of_unknown(),
+        }
+    }
+
+    /// Knows this of a host. Where no host may be forgotten for it, all further ones are known together, so that none that
+    /// fails is asked again at once. Without memory a new one stays unknown.
+    fn put(&mut self, alloc: Global, host: &str, noted: Noted, now: u64) {
         if let Some(place) = self.noted.get_mut(host) {
             *place = noted;
-            return;
-        }
-        self.make_room(alloc);
-        if let Ok(host) = String::from_str(alloc, host) {
+        } else if !self.has_room(alloc, now) {
+            self.others = noted;
+        } else if let Ok(host) = String::from_str(alloc, host) {
             let _ = self.noted.insert(host, noted);
         }
     }
 
-    /// Forgets the host whose pause ended longest ago, or ends first, where there is no room for another.
-    fn make_room(&mut self, alloc: Global) {
+    /// Whether there is room for another host, for which one may be forgotten that is left alone no longer.
+    fn has_room(&mut self, alloc: Global, now: u64) -> bool {
         if self.noted.len() < MOST_HOSTS {
-            return;
+            return true;
         }
-        if let Some(host) = self.first_over(alloc) {
-            let _ = self.noted.remove(host.as_str());
+        if now < self.full {
+            return false;
+        }
+        match self.first_over(alloc, now) {
+            Some(host) => self.noted.remove(host.as_str()).is_some(),
+            None => {
+                self.full = now.saturating_add(FIRST_PAUSE);
+                false
+            }
         }
     }
 
-    /// The host whose pause ends first of those with which no exchange goes on.
-    fn first_over(&self, alloc: Global) -> Option<String> {
-        let mut first: Option<(&str, u64)> = None;
+    /// A host that may be forgotten.
+    fn first_over(&self, alloc: Global, now: u64) -> Option<String> {
         for (host, noted) in self.noted.iter() {
-            let least = match first {
-                Some((_, until)) => until,
-                None => u64::MAX,
-            };
-            if !noted.is_tried && noted.until < least {
-                first = Some((host.as_str(), noted.until));
+            if noted.is_over(now) {
+                return String::from_str(alloc, host.as_str()).ok();
             }
         }
-        let (host, _) = first?;
-        String::from_str(alloc, host).ok()
+        None
     }
 
     /// Notes that an exchange with a host begins.
-    pub fn begin(&mut self, alloc: Global, host: &str) {
+    pub fn begin(&mut self, alloc: Global, host: &str, now: u64) {
         let mut noted = self.at(host);
         noted.is_tried = true;
-        self.put(alloc, host, noted);
+        self.put(alloc, host, noted, now);
     }
 
     /// Notes that an exchange with a host ended, and whether it replied.
-    pub fn end(&mut self, alloc: Global, host: &str, has_answered: bool) {
+    pub fn end(&mut self, alloc: Global, host: &str, has_answered: bool, now: u64) {
         let mut noted = self.at(host);
         noted.is_tried = false;
         noted.has_answered = noted.has_answered || has_answered;
-        self.put(alloc, host, noted);
+        self.put(alloc, host, noted, now);
     }
 
     /// Leaves a host alone until then, though it did not fail.
-    pub fn rest(&mut self, alloc: Global, host: &str, until: u64) {
+    pub fn rest(&mut self, alloc: Global, host: &str, until: u64, now: u64) {
         let mut noted = self.at(host);
         noted.until = until;
-        self.put(alloc, host, noted);
+        self.put(alloc, host, noted, now);
     }
 
     /// Notes that a host failed, or was of no use: it is left alone for a while. Gives what is to be told of it.
     pub fn fail(&mut self, alloc: Global, host: &str, now: u64) -> Option<HostNote> {
         let mut noted = self.at(host);
         let is_news = noted.fail(now);
-        self.put(alloc, host, noted);
+        self.put(alloc, host, noted, now);
         if is_news {
-            HostNote::of(alloc, host, noted.tries, false)
+            HostNote::of(alloc, host, noted.messages(), false)
         } else {
             None
         }
     }
 
     /// Notes that a host was of use. Gives what is to be told of it.
-    pub fn succeed(&mut self, alloc: Global, host: &str) -> Option<HostNote> {
-        let mut noted = self.at(host);
+    pub fn succeed(&mut self, alloc: Global, host: &str, now: u64) -> Option<HostNote> {
+        let mut noted = *self.noted.get(host)?;
         if !noted.is_failing() {
             return None;
         }
-        let tries = noted.tries;
         let is_news = noted.succeed();
-        self.put(alloc, host, noted);
+        self.put(alloc, host, noted, now);
         if is_news {
-            HostNote::of(alloc, host, tries, true)
+            HostNote::of(alloc, host, noted.messages(), true)
         } else {
             None
         }
@@ -213,7 +277,8 @@ impl Hosts {
 /// What an administrator is told of a host.
 pub struct HostNote {
     host: String,
-    tries: u32,
+    /// How many messages wait for it.
+    messages: u32,
     is_reached: bool,
 }
 
@@ -221,7 +286,7 @@ impl Drop for HostNote {
     fn drop(self) {
         let HostNote {
             host: _,
-            tries: _,
+            messages: _,
             is_reached: _,
         } = self;
     }
@@ -229,11 +294,11 @@ impl Drop for HostNote {
 
 impl HostNote {
     /// A note of a host, where there is memory for it.
-    fn of(alloc: Global, host: &str, tries: u32, is_reached: bool) -> Option<HostNote> {
+    fn of(alloc: Global, host: &str, messages: u32, is_reached: bool) -> Option<HostNote> {
         let host = String::from_str(alloc, host).ok()?;
         Some(HostNote {
             host,
-            tries,
+            messages,
             is_reached,
         })
     }
@@ -242,13 +307,13 @@ impl HostNote {
 impl fmt::Display for HostNote {
     fn fmt<W: fmt::Write>(&self, f: &mut fmt::Formatter<W>) -> fmt::Result {
         let host = self.host.as_str();
-        let tries = self.tries;
+        let messages = self.messages;
         if self.is_reached {
-            write!(f, "{host} is reached again, after {tries} tries in vain")
+            write!(f, "{host} is reached again; messages due: {messages}")
         } else {
             write!(
                 f,
-                "nothing can be delivered to {host}; tries in vain: {tries}"
+                "nothing can be delivered to {host}; messages due: {messages}"
             )
         }
     }

@@ -6,8 +6,9 @@ ghost use Rattle.ocm_net_exchanges.specs.Keeps.{is_kept, is_of_other, kept_until
 use ocm_base::{Bytes, NoMemory};
 use std::alloc::{AllocError, Global};
 
-/// How many replies are kept at most.
-const MOST_KEPT: usize = 128;
+/// How many replies are kept at most: four times as many as there are exchanges under way. So a host's document is here
+/// still when its reply to a message comes, however many hosts there are.
+const MOST_KEPT: usize = 512;
 
 /// How the request for a document begins.
 const DOCUMENT: &[u8] = b"GET ";

@@ -63,12 +63,14 @@ impl Names {
         None
     }
 
-    /// The addresses of a host, or the look-up for them, which begins now. None where there is no room for another.
+    /// The addresses of a host that fails or doesn't, or the look-up for them, which begins now. None where there is no room
+    /// for another.
     pub fn find<R: Threads + Net>(
         &self,
         rt: &R,
         alloc: Global,
         host: &str,
+        is_failing: bool,
         now: u64,
     ) -> Option<(Option<Lookup>, Addresses)> {
         let Some((name, port)) = name_and_port(host) else {
@@ -80,7 +82,7 @@ impl Names {
         if let Some(addresses) = self.kept_for(host, now) {
             return Some((None, addresses));
         }
-        let lookup = self.lookups.begin(rt, alloc, name, port)?;
+        let lookup = self.lookups.begin(rt, alloc, name, port, is_failing)?;
         Some((Some(lookup), Addresses::none()))
     }
 

@@ -43,6 +43,9 @@ pub struct Table {
     notes: Vec<HostNote>,
     /// Whether the last request got a reply.
     has_replied: bool,
+    /// The host that gave the last reply of this delivery, where there was memory to note it. A document may name another
+    /// host's end point.
+    replier: Option<String>,
     /// The place of the exchange that this round waits for, behind which none has to follow.
     awaited: Option<usize>,
     /// When rounds are due.
@@ -59,6 +62,7 @@ impl Drop for Table {
             piece: _,
             notes: _,
             has_replied: _,
+            replier: _,
             awaited: _,
             turns: _,
         } = self;
@@ -115,6 +119,7 @@ impl Table {
             piece,
             notes: Vec::new(alloc),
             has_replied: false,
+            replier: None,
             awaited: None,
             turns: Turns::new(),
         })
@@ -123,6 +128,7 @@ impl Table {
     /// The reply of a host to these bytes, where one is kept and the host is not left alone.
     pub fn take(
         &mut self,
+        alloc: Global,
         host: &str,
         request: &[u8],
         now: u64,
@@ -133,6 +139,9 @@ impl Table {
         self.has_replied = false;
         let found = self.keeps.take(host, request, now)?;
         self.has_replied = found.is_some();
+        if self.has_replied {
+            self.replier = String::from_str(alloc, host).ok();
+        }
         Ok(found)
     }
 
@@ -147,7 +156,7 @@ impl Table {
         request: &Bytes,
         now: u64,
     ) -> Result<Option<usize>, ExchangeFault> {
-        let noted = self.hosts.at(host);
+        let noted = self.hosts.waited_for(host, self.turns.round());
         if noted.is_tried {
             return Ok(None);
         }
@@ -159,13 +168,13 @@ impl Table {
             self.turns.call_at(now.saturating_add(NO_ROOM));
             return Ok(None);
         };
-        let Some(found) = self.names.find(rt, alloc, host, now) else {
+        let Some(found) = self.names.find(rt, alloc, host, noted.is_failing(), now) else {
             self.turns.call_at(now.saturating_add(NO_ROOM));
             return Ok(None);
         };
         match seated(alloc, host, request, noted, now, found) {
             Ok(seat) => {
-                self.hosts.begin(alloc, host);
+                self.hosts.begin(alloc, host, now);
                 self.seats.put(place, seat);
                 self.awaited = Some(place);
                 self.launch(alloc, set, place, now);
@@ -241,17 +250,17 @@ impl Table {
         }
         match came {
             Ok(reply) => {
-                self.hosts.end(alloc, host.as_str(), true);
+                self.hosts.end(alloc, host.as_str(), true, now);
                 self.names.keep(alloc, host.as_str(), addresses, now);
                 let _ = self.keeps.put(host, request, reply, now);
             }
             Err(ExchangeFault::NoMemory) => {
-                self.hosts.end(alloc, host.as_str(), false);
+                self.hosts.end(alloc, host.as_str(), false, now);
                 self.hosts
-                    .rest(alloc, host.as_str(), now.saturating_add(NO_ROOM));
+                    .rest(alloc, host.as_str(), now.saturating_add(NO_ROOM), now);
             }
             Err(ExchangeFault::Failed) => {
-                self.hosts.end(alloc, host.as_str(), false);
+                self.hosts.end(alloc, host.as_str(), false, now);
                 self.names.forget(host.as_str());
                 self.fail(alloc, host.as_str(), now);
             }
@@ -280,18 +289,28 @@ impl Table {
         self.seats.is_taken(place)
     }
 
-    /// Notes whether what came back of a delivery to a host settles its message. Where the host was not asked, or did
-    /// not reply yet, that says nothing of it.
+    /// Notes whether what came back of a delivery to a host settles its message: then this host and the one that gave the
+    /// last reply were of use. Where the host was not asked, or did not reply yet, that says nothing of it.
     pub fn came(&mut self, alloc: Global, host: &str, settles: bool, now: u64) {
         self.turns.count();
+        let replier = self.replier.take();
         if settles {
             self.turns.call();
-            let note = self.hosts.succeed(alloc, host);
-            self.note(note);
+            self.succeed(alloc, host, now);
+            if let Some(replier) = &replier {
+                self.succeed(alloc, replier.as_str(), now);
+            }
         } else if self.has_replied {
             self.fail(alloc, host, now);
         }
+        drop(replier);
         self.has_replied = false;
+    }
+
+    /// Notes that a host was of use.
+    fn succeed(&mut self, alloc: Global, host: &str, now: u64) {
+        let note = self.hosts.succeed(alloc, host, now);
+        self.note(note);
     }
 
     /// When one of the exchanges is to be looked at again, though nothing comes, in milliseconds.

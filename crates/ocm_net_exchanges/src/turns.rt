@@ -25,6 +25,8 @@ pub struct Turns {
     messages: u64,
     /// How long this round still waits for peers, in milliseconds.
     patience: u64,
+    /// How many rounds were begun.
+    round: u64,
 }
 
 impl Turns {
@@ -36,6 +38,7 @@ impl Turns {
             held: 0,
             messages: 0,
             patience: PATIENCE,
+            round: 0,
         }
     }
 
@@ -76,6 +79,12 @@ impl Turns {
         self.is_due = false;
         self.next = now.saturating_add(LONGEST_REST);
         self.patience = PATIENCE;
+        self.round = self.round.wrapping_add(1);
+    }
+
+    /// How many rounds were begun, this one among them.
+    pub fn round(&self) -> u64 {
+        self.round
     }
 
     /// When the next round is due, in milliseconds.

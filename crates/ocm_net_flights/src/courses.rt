@@ -3,7 +3,7 @@ ghost use Rattle.std.specs.Prelude.{◌≤◌, length};
 
 use crate::addresses::begin_connect;
 use crate::replies::ReplyLook;
-use crate::streams::{read_now, write_now};
+use ocm_net_waits::{read_now, write_now};
 use os::RawAddr;
 use std::alloc::Global;
 use std::net::TcpStream;
@@ -100,7 +100,7 @@ impl Course {
     fn send(&mut self, request: &[u8]) -> bool {
         for _ in 0..=request.len() {
             let rest = request.get(self.sent..).unwrap_or_default();
-            match write_now(&self.stream, rest) {
+            match write_now(&self.stream, rest, &[]) {
                 Some(0) => return true,
                 Some(n) => self.sent = self.sent.saturating_add(n),
                 None => return false,

@@ -12,7 +12,6 @@ mod flights;
 mod lone;
 mod lookups;
 mod replies;
-mod streams;
 
 pub use addresses::{Addresses, is_literal, name_and_port};
 pub use courses::Step;

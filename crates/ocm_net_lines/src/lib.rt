@@ -9,7 +9,6 @@ mod incoming;
 mod lines;
 mod outgoing;
 mod states;
-mod streams;
 mod times;
 mod wholes;
 

@@ -12,6 +12,6 @@ mod plans;
 mod users;
 
 pub use limits::is_full;
-pub use messages::{one_message, told_of_ends, told_of_perms};
+pub use messages::{offered_share, one_message, told_of_ends, told_of_perms};
 pub use plans::Planned;
 pub use users::{plan_new_user, plan_tick};

@@ -1,13 +1,18 @@
-//! Lists of messages.
-ghost use Rattle.std.specs.Prelude.{◌≡◌, ◌∷◌, [], IfOk};
+//! Lists of messages, and a new share with the message that offers it.
+ghost use Rattle.std.specs.Prelude.{◌≡◌, ◌<◌, ◌+◌, ◌∷◌, [], IfOk, length};
+ghost use Rattle.ocm_limits.specs.Limits.{most_shares};
+ghost use Rattle.ocm_letters.specs.Letters.{offered_from};
 ghost use Rattle.ocm_letters.specs.Mailings.{changed_to_guests};
 ghost use Rattle.ocm_rules.specs.Messages.{at_end};
 ghost use Rattle.ocm_rules.specs.State.{view_in};
 
 use ocm_base::{List, NoMemory};
-use ocm_letters::{NewPerms, add_changed, add_unshared};
+use ocm_chain::{PlannedShare, plan_share};
+use ocm_entry::Share;
+use ocm_letters::{NewPerms, add_changed, add_unshared, offered};
 use ocm_rules::Message;
 use ocm_tables::{Steps, Tables};
+use ocm_types::Name;
 use std::sync::ledger::Ledger;
 
 /// The list of one message.
@@ -17,6 +22,24 @@ pub fn one_message(tables: &Tables, message: Message) -> Result<List<Message>, N
     let mut sent = List::new(tables.allocator());
     sent.push(message)?;
     Ok(sent)
+}
+
+/// A new share, whose owner has this name, and the message that offers it to its guest. There are fewer shares than a server
+/// may have.
+pub fn offered_share(
+    tables: &Tables,
+    owner: &Name,
+    share: Share,
+) -> Result<(PlannedShare, List<Message>), NoMemory>
+    requires { length tables.now.state.shares < most_shares }
+    ensures share { IfOk result (λ made. made.0 ≡ share) }
+    ensures sent { IfOk result (λ made. made.1 ≡ offered_from tables.now.state.host owner.now (length tables.now.state.shares + 1) share ∷ []) }
+{
+    let id = tables.share_count() + 1;
+    let offer = offered(tables.allocator(), tables.host(), owner, id, &share)?;
+    let sent = one_message(tables, offer)?;
+    let share = plan_share(share)?;
+    Ok((share, sent))
 }
 
 /// The messages that tell the guests of the shares of these numbers that these end, in order. It takes

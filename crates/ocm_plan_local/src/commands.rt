@@ -1,4 +1,4 @@
-ghost use Rattle.std.specs.Prelude.{◌≡◌, IfOk, IsTrue};
+ghost use Rattle.std.specs.Prelude.{IfOk, IsTrue};
 ghost use Rattle.ocm_entry.specs.declared.asks.Ask.TheVariants as asks;
 ghost use Rattle.ocm_entry.specs.Proper.{is_proper};
 ghost use Rattle.ocm_plan.specs.Plans.{Plans};

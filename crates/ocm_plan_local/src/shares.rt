@@ -1,10 +1,9 @@
 //! Commands of users about their own shares.
-ghost use Rattle.std.specs.Prelude.{◌≡◌, ◌+◌, ◌<◌, ◌∷◌, [], ◌||◌, IfOk, IsTrue, Some, length, map, nat_lt};
-ghost use Rattle.ocm_limits.specs.Limits.{most_changes, most_restrictions, most_shares};
+ghost use Rattle.std.specs.Prelude.{◌≡◌, ◌+◌, ◌<◌, ◌||◌, IfOk, IsTrue, Some, map, nat_lt};
+ghost use Rattle.ocm_limits.specs.Limits.{most_changes, most_restrictions};
 ghost use Rattle.ocm_entry.specs.declared.asks.Ask.TheVariants as asks;
 ghost use Rattle.ocm_entry.specs.declared.asks.Cmd.TheVariants as commands;
 ghost use Rattle.ocm_entry.specs.Proper.{is_short};
-ghost use Rattle.ocm_letters.specs.Letters.{offered_from};
 ghost use Rattle.ocm_letters.specs.Mailings.{changed_to_guests};
 ghost use Rattle.ocm_rules.specs.Answers.{is_full_of_changes};
 ghost use Rattle.ocm_rules.specs.Numbers.{same_text};
@@ -16,15 +15,15 @@ ghost use Rattle.ocm_plan_local.specs.Told.{new_perms};
 
 use crate::reads::{live_share, stands, user_name};
 use ocm_base::{List, NoMemory};
-use ocm_chain::{Change, PlannedShare, plan_share};
+use ocm_chain::Change;
 use ocm_entry::{AddressField, Reply, Share, Why};
-use ocm_letters::{NewPerms, offered, own_share};
+use ocm_letters::{NewPerms, own_share};
 use ocm_limits::{MOST_CHANGES, MOST_RESTRICTIONS, MOST_SHARES};
 use ocm_path::Path;
-use ocm_plan::{Planned, is_full, one_message, told_of_ends, told_of_perms};
+use ocm_plan::{Planned, is_full, offered_share, told_of_ends, told_of_perms};
 use ocm_rules::Message;
 use ocm_tables::{Steps, TableChange, Tables};
-use ocm_types::{Address, Fresh, Name, Perms, Secret, Which};
+use ocm_types::{Address, Fresh, Perms, Secret, Which};
 use std::alloc::Global;
 use std::sync::ledger::Ledger;
 
@@ -201,25 +200,8 @@ pub fn plan_new_share<L: Ledger>(
     }
     let owner = user_name(tables, key, user);
     let share = own_share(tables.host(), user, owner, path, with, perms, secret)?;
-    let (share, sent) = plan_offered(tables, owner, share)?;
+    let (share, sent) = offered_share(tables, owner, share)?;
     let number = tables.share_count() + 1;
     let change = TableChange::AddShare(share);
     Ok(Planned::new(tables, Reply::Number { number }, change, sent))
-}
-
-/// A new share of an owner of this name, and the message that offers it to its guest.
-fn plan_offered(
-    tables: &Tables,
-    owner: &Name,
-    share: Share,
-) -> Result<(PlannedShare, List<Message>), NoMemory>
-    requires { length tables.now.state.shares < most_shares }
-    ensures share { IfOk result (λ made. made.0 ≡ share) }
-    ensures sent { IfOk result (λ made. made.1 ≡ offered_from tables.now.state.host owner.now (length tables.now.state.shares + 1) share ∷ []) }
-{
-    let id = tables.share_count() + 1;
-    let offer = offered(tables.allocator(), tables.host(), owner, id, &share)?;
-    let sent = one_message(tables, offer)?;
-    let share = plan_share(share)?;
-    Ok((share, sent))
 }

@@ -1,6 +1,6 @@
 //! Notices about shares that were received: that one is shared no more, or that its guest may do
 //! something else from now on.
-ghost use Rattle.std.specs.Prelude.{◌≡◌, ℕ, IfOk, List};
+ghost use Rattle.std.specs.Prelude.{ℕ, IfOk, List};
 ghost use Rattle.ocm_entry.specs.declared.asks.Ask.TheVariants as asks;
 ghost use Rattle.ocm_types.specs.declared.letters.Notice.TheVariants as notices;
 ghost use Rattle.ocm_plan.specs.Plans.{Plans};

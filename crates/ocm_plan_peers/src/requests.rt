@@ -1,5 +1,5 @@
 //! Requests of guests that a share be shared further (OCM API 1.1, `REQUEST_RESHARE`).
-ghost use Rattle.std.specs.Prelude.{◌≡◌, ◌<◌, ◌+◌, ◌∷◌, [], ◌&&◌, ℕ, IfErr, IfOk, IsSome, List, OnOk, false, if◌then◌else◌, length, option_copied, unwrap_or};
+ghost use Rattle.std.specs.Prelude.{◌≡◌, ◌<◌, ◌+◌, ◌&&◌, ℕ, IfErr, IfOk, IsSome, List, OnOk, false, if◌then◌else◌, length, option_copied, unwrap_or};
 ghost use Rattle.std.specs.Option.{option_map_or};
 ghost use Rattle.ocm_texts.specs.Hex.{hex};
 ghost use Rattle.ocm_limits.specs.Limits.{most_shares};
@@ -15,19 +15,16 @@ ghost use Rattle.ocm_rules.specs.Numbers.{at_number};
 ghost use Rattle.ocm_rules.specs.Shares.{is_used, named};
 ghost use Rattle.ocm_rules.specs.State.{view_in};
 ghost use Rattle.ocm_rules.specs.Views.{effective_in};
-ghost use Rattle.ocm_letters.specs.Letters.{offered_from};
 ghost use Rattle.ocm_plan.specs.Plans.{Plans};
 
 use crate::reads::owner_of;
-use ocm_base::{List, NoMemory};
-use ocm_chain::{PlannedShare, plan_share};
+use ocm_base::NoMemory;
 use ocm_entry::{AddressField, Reply, Share, Why};
-use ocm_letters::{child_share, offered};
+use ocm_letters::child_share;
 use ocm_limits::MOST_SHARES;
-use ocm_plan::{Planned, is_full, one_message};
-use ocm_rules::Message;
+use ocm_plan::{Planned, is_full, offered_share};
 use ocm_tables::{Steps, TableChange, Tables};
-use ocm_types::{Address, Fresh, Name, Perms, ProviderId, Rights, Secret, SenderId, Which};
+use ocm_types::{Address, Fresh, Perms, ProviderId, Rights, Secret, SenderId, Which};
 use std::sync::ledger::Ledger;
 
 /// A guest asks that a share be shared further.
@@ -217,21 +214,4 @@ fn plan_child<L: Ledger>(
         TableChange::AddShare(share),
         sent,
     ))
-}
-
-/// A new share, whose owner has this name, with the message that offers it.
-fn offered_share(
-    tables: &Tables,
-    owner: &Name,
-    share: Share,
-) -> Result<(PlannedShare, List<Message>), NoMemory>
-    requires { length tables.now.state.shares < most_shares }
-    ensures share { IfOk result (λ made. made.0 ≡ share) }
-    ensures sent { IfOk result (λ made. made.1 ≡ offered_from tables.now.state.host owner.now (length tables.now.state.shares + 1) share ∷ []) }
-{
-    let id = tables.share_count() + 1;
-    let offer = offered(tables.allocator(), tables.host(), owner, id, &share)?;
-    let sent = one_message(tables, offer)?;
-    let share = plan_share(share)?;
-    Ok((share, sent))
 }

@@ -117,6 +117,8 @@ pub enum Cause {
     InUse,
     /// It is no address of this machine.
     NotHere,
+    /// The process has as many files open as it may have.
+    TooManyFiles,
     /// What says nothing to an administrator.
     Other,
 }
@@ -130,6 +132,7 @@ impl Cause {
             ErrorKind::IsADirectory => Cause::Folder,
             ErrorKind::AddrInUse => Cause::InUse,
             ErrorKind::AddrNotAvailable => Cause::NotHere,
+            _ if error.raw_os_error() == Some(libc::EMFILE) => Cause::TooManyFiles,
             _ => Cause::Other,
         }
     }
@@ -144,6 +147,7 @@ impl fmt::Display for Cause {
             Cause::NoFile => ": it is no plain file",
             Cause::InUse => ": it is in use",
             Cause::NotHere => ": this machine has no such address",
+            Cause::TooManyFiles => ": the limit on open files is too low (ulimit -n)",
             Cause::Other => "",
         })
     }

@@ -23,7 +23,7 @@ abbrev pub mine_of : {Terms : Type 0} → Option (Known Terms) → List Call
 mine_of (Some pass) = pass.mine
 mine_of None = []
 
--- the greatest ticket word that a pass found, where there is a pass
+-- the greatest number of calls that a pass found when one of its own ended or was refused, where there is a pass
 abbrev pub drawn_of : {Terms : Type 0} → Option (Known Terms) → ℕ
 drawn_of (Some pass) = pass.drawn
 drawn_of None = 0
@@ -79,7 +79,7 @@ abbrev pub begun : {C Terms : Type 0} → Work C Terms → ChaCha → Known Term
 begun w draw pass = record w { draw = draw; pass = Some (beginner pass) }
 
 -- one worker: it began with its stream of drawn values and a pass that knows no call, and served its door; these are its calls, and its pass is gone.
--- What its pass knew at last is an older part of the past. No ticket word that it found is above the number of all calls: it was refused a call only where so many were made as the turnstile allows.
+-- What its pass knew at last is an older part of the past. No number of calls that it found is above that of all: it was refused a call only where so many were made as the turnstile allows.
 pub record Shift {C Terms : Type 0} (sides : C → Sides) (config : Config) (gate : Gate) (first : Known Terms) (draw : ChaCha) (old new : Work C Terms) (calls : List Call) (past : Past) : Type 0 where
   pub last : Known Terms
   pub worked : Worked sides config gate (begun old draw first) (record new { pass = Some last })

@@ -77,7 +77,7 @@ impl<T: Dated> TurnTable<T> {
     }
 
     /// Wakes one of the callers that sleep until no turn goes on.
-    pub(crate) fn wake_next(&self, seat: &mut TurnSeat<T>)
+    pub(crate) fn wake_one(&self, seat: &mut TurnSeat<T>)
         requires own { (seat.old.table_id ≡ self.now.table.shared.table_id) × (seat.old.me.0.stage ≡ Named) }
         ensures same { (seat.new.table_id ≡ seat.old.table_id) × (seat.new.me ≡ seat.old.me) }
     {

@@ -262,7 +262,7 @@ impl<T: Dated> TurnTable<T> {
         ensures sound { Sound seat.new.me.0 × (length seat.new.me.0.mine ≤ length seat.new.me.0.seen) }
     {
         self.table.shared.fetch_add::<Finish<E>>(seat, DONE, 1);
-        self.wake_next(seat);
+        self.wake_one(seat);
     }
 
     /// Ends a turn in which a call began that has work to do apart. The seat has the mark of the work from then on.
@@ -275,7 +275,7 @@ impl<T: Dated> TurnTable<T> {
         ensures view { seat.new.me ≡ (passed seat.old.me.0 (Some (T.mark work.now)), []) }
     {
         self.table.shared.fetch_add::<SetApart>(seat, DONE, 1);
-        self.wake_next(seat);
+        self.wake_one(seat);
     }
 
     /// Ends a turn in which no call began or ended.
@@ -287,7 +287,7 @@ impl<T: Dated> TurnTable<T> {
         ensures view { seat.new.me ≡ (passed seat.old.me.0 None, []) }
     {
         self.table.shared.fetch_add::<PassOn>(seat, DONE, 1);
-        self.wake_next(seat);
+        self.wake_one(seat);
     }
 
     /// Ends a turn that found the limit reached.
@@ -299,7 +299,7 @@ impl<T: Dated> TurnTable<T> {
         ensures view { seat.new.me ≡ (refused seat.old.me.0, []) }
     {
         self.table.shared.fetch_add::<Refuse>(seat, DONE, 1);
-        self.wake_next(seat);
+        self.wake_one(seat);
     }
 
     /// Cuts a seat in two: the new one has seen the same and made no call, and has one of the parts.

@@ -1,6 +1,6 @@
 use Rattle.std.proofs.Common.{ap, ◌∙◌, Ok}
 use Rattle.ocm_journal_image.specs.Reading.{records_from}
-use Rattle.ocm_compact.proofs.Labels.{host-is, host-none}
+use Rattle.ocm_journal_audit.proofs.OwnHosts.{host-is, host-none}
 use Rattle.ocm_compact.proofs.Made.{below-label, below-said, refused-as}
 use Rattle.ocm_compact.proofs.compacting.compact_framed.Goals as goal
 

@@ -1,6 +1,6 @@
 use Rattle.std.proofs.Common.{◌≡◌, List, ℕ, ◌∷◌, ◌++◌, length, take, sym, ap, ◌∙◌, subst, arith}
 use Rattle.ocm_journal_image.specs.Layout.{IsImage, area_text, fresh}
-use Rattle.ocm_compact.proofs.Taking.{if-ok-of}
+use Rattle.ocm_core.proofs.Taking.{if-ok-of}
 use Rattle.ocm_compact.proofs.WholeImages.{length-fresh, whole-image}
 use Rattle.ocm_compact.proofs.images.image_of.Goals as goal
 

@@ -1,4 +1,4 @@
-use Rattle.std.proofs.Common.{[], ap, ◌∙◌, length}
+use Rattle.std.proofs.Common.{[], ap, ◌∙◌}
 use Rattle.ocm_access_log.specs.Lines.{log_of}
 use Rattle.ocm_logcheck.specs.Replays.{count_true}
 use Rattle.ocm_logcheck.proofs.Telling.{told-read}

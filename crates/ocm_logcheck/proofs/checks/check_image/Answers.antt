@@ -3,7 +3,7 @@ use Rattle.ocm_access_log.specs.Lines.{log_of}
 use Rattle.ocm_journal_records.specs.Stamps.{refused_from}
 use Rattle.ocm_law_sessions.specs.Readings.{refused_at}
 use Rattle.ocm_logcheck.specs.Checks.{opened_in, told_of, unless_refused}
-use Rattle.ocm_logcheck.proofs.Labels.{host-is}
+use Rattle.ocm_journal_audit.proofs.OwnHosts.{host-is}
 use Rattle.ocm_logcheck.proofs.Taking.{if-ok-at}
 use Rattle.ocm_logcheck.proofs.Telling.{told-form, told-image}
 use Rattle.ocm_logcheck.proofs.checks.check_image.Goals as goal

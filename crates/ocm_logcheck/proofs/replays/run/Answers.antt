@@ -1,4 +1,4 @@
-use Rattle.std.proofs.Common.{◌≡◌, length, ap, ◌∙◌, subst, arith}
+use Rattle.std.proofs.Common.{◌≡◌, length, subst, arith}
 use Rattle.ocm_law_sessions.specs.Readings.{goes_on}
 use Rattle.ocm_logcheck.specs.Replays.{GoesOn}
 use Rattle.ocm_logcheck.proofs.Going.{opened-all, opened-next, opened-none, opened-refused}

@@ -1,16 +1,15 @@
 -- How lists go on by what is planned.
-use Rattle.std.proofs.Common.{◌≡◌, List, ◌∷◌, Bool, sym, ap, ◌∙◌, subst, Result, Ok, Err}
+use Rattle.std.proofs.Common.{◌≡◌, List, ◌∷◌, Bool, sym, ◌∙◌, subst, Result, Ok, Err}
 use Rattle.std.specs.Prelude.{IfOk}
 use Rattle.ocm_entry.specs.declared.asks.Ask.{Ask}
 use Rattle.ocm_entry.specs.declared.entries.Entry.{Entry}
 use Rattle.ocm_entry.specs.declared.replies.Reply.{Reply}
-use Rattle.ocm_rules.specs.History.{answer, changes, kept}
+use Rattle.ocm_rules.specs.History.{changes, kept}
 use Rattle.ocm_rules.specs.State.{State}
 use Rattle.ocm_tables.specs.Changes.{is_kept}
 use Rattle.ocm_plan.specs.Plans.{Plan, Plans}
 use Rattle.ocm_core.specs.Standing.{IsAfter}
 use Rattle.ocm_core.proofs.Standing.{changes-after}
-use Rattle.ocm_law_sessions.specs.Sessions.{would_change}
 
 -- an ask with its reply
 abbrev pub told : Ask → Reply → Entry
@@ -27,13 +26,6 @@ pub applied-after : (st middle new : State) (plan : Plan) (reply : Reply) → mi
 applied-after st middle new plan reply same is goes g ask after plans =
     subst (λ r. IsAfter new (told ask r ∷ g)) is (goes g ask (subst (λ s. IsAfter s g) (sym same) after) (subst (λ s. Plans s ask plan) (sym same) plans))
 
--- the entry of an ask with its answer
-pub told-would : (st : State) (g : List Entry) (ask : Ask) (reply : Reply) → reply ≡ answer st.host g ask → changes st.host (kept st.host g) (told ask reply) ≡ would_change st.host g ask
-told-would st g ask reply is = ap (λ r. changes st.host (kept st.host g) (told ask r)) is
-
 pub if-ok-of : {A E : Type 0} (r : Result A E) (P Q : A → Type 0) → ((a : A) → P a → Q a) → IfOk r P → IfOk r Q
 if-ok-of (Ok a) P Q step holds = step a holds
 if-ok-of (Err e) P Q step holds = tt
-
-pub if-ok-at : {A E : Type 0} (r : Result A E) (P : A → Type 0) (a : A) → IfOk r P → r ≡ Ok a → P a
-if-ok-at r P a holds is = subst (λ x. IfOk x P) is holds

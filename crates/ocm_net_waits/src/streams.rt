@@ -1,4 +1,4 @@
-//! Single reads and writes of a stream, which wait for nothing, or for a moment where the stream lingers.
+//! Single reads and writes of a stream, which wait for nothing, and the wait for its bytes.
 ghost use Rattle.std.specs.Prelude.{◌≤◌, ◌++◌, IfOk, IfSome, length};
 
 use libc::net::{POLLIN, poll};
@@ -10,9 +10,9 @@ use std::os::fd::AsRawFd;
 /// How many calls of the system a signal may end before one counts as failed.
 const MOST_INTERRUPTED: u32 = 1_000;
 
-/// Reads what is there, and answers how many bytes: 0 at the end of the peer's bytes. None where nothing is there.
+/// Reads what is there, and answers how many bytes: 0 at the end of the peer's bytes. None where nothing is there now.
 pub fn read_now(stream: &TcpStream, buf: &mut [u8]) -> Result<Option<usize>, ErrorKind>
-    ensures { IfOk result (λ found. IfSome found (λ n. n ≤ length buf.old)) }
+    ensures { IfOk result (λ found. IfSome found (λ n. (n ≤ length buf.old) × (n ≤ length buf.new))) }
 {
     let mut reader = stream;
     for _ in 0..MOST_INTERRUPTED {

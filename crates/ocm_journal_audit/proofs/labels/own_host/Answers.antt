@@ -3,9 +3,8 @@ use Rattle.std.specs.Str.{is_utf8}
 use Rattle.std.proofs.lemmas.Bool.{false_from_ne_true}
 use Rattle.std.proofs.lemmas.Str.{is_utf8-from_IsUtf8, IsUtf8-from_is_utf8}
 use Rattle.ocm_types.specs.Hosts.{canonical_host_of}
-use Rattle.ocm_compact.proofs.Labels.{IsHostOf, foreign-host, own-host}
-use Rattle.ocm_compact.proofs.Taking.{if-ok-of}
-use Rattle.ocm_compact.proofs.refusing.own_host.Goals as goal
+use Rattle.ocm_journal_audit.proofs.OwnHosts.{IsHostOf, foreign-host, if-ok-of, own-host}
+use Rattle.ocm_journal_audit.proofs.labels.own_host.Goals as goal
 
 pub returns-in-Ok : goal.returns-in-Ok
 returns-in-Ok c =

@@ -1,13 +1,10 @@
 -- The host of a label.
-use Rattle.std.proofs.Common.{◌≡◌, ℕ, ◌+◌, ◌<◌, ◌≤◌, List, ◌∷◌, length, drop, get_or, Bool, true, false, ◌&&◌, refl, sym, ap, ◌∙◌, Option, Some, None}
-use Rattle.std.specs.Prelude.{if◌then◌else◌, is_some}
+use Rattle.std.proofs.Common.{◌≡◌, ℕ, List, Bool, true, false, ◌&&◌, refl, sym, ap, ◌∙◌, Option, Some, None, Result, Ok, Err}
+use Rattle.std.specs.Prelude.{IfOk, if◌then◌else◌, is_some}
 use Rattle.std.specs.Str.{is_utf8}
-use Rattle.std.proofs.lemmas.List.{drop_all, drop_more}
-use Rattle.ocm_journal_image.specs.declared.readings.RawRecord.{RawRecord}
 use Rattle.ocm_types.specs.Hosts.{canonical_host_of}
 use Rattle.ocm_types.proofs.HostReading.{canonical_host_of-is}
 use Rattle.ocm_journal_audit.specs.Audits.{is_own_host}
-use Rattle.ocm_journal_records.specs.Stamps.{moment_past, refused_from}
 
 -- the host whose own text a label is
 abbrev pub IsHostOf : List ℕ → Option (List ℕ) → Type 0
@@ -30,3 +27,23 @@ host-is label slice host found same is some = by_test (is_own_host label) refl (
     by_test : (b : Bool) → is_own_host label ≡ b → Some found ≡ (if b then Some label else None) → (is_own_host label ≡ true) × (found ≡ label)
     by_test true own h = let same_host : found ≡ label = cc in (own, same_host)
     by_test false foreign h = absurd (cc)
+
+-- where none was found, the label is no host's
+pub host-none : (label slice : List ℕ) (host : Option (List ℕ)) → slice ≡ label → IsHostOf slice host → host ≡ None → is_own_host label ≡ false
+host-none label slice host same is none = by_test (is_own_host label) refl (sym none ∙ is ∙ ap (λ l. if is_own_host l then Some l else None) same)
+  where
+    by_test : (b : Bool) → is_own_host label ≡ b → None ≡ (if b then Some label else None) → is_own_host label ≡ false
+    by_test true own h = absurd (cc)
+    by_test false foreign h = foreign
+
+-- whether one was found tells whether the label is a host's
+pub found-tells : (label : List ℕ) → is_some (if is_own_host label then Some label else None) ≡ is_own_host label
+found-tells label = by_test (is_own_host label)
+  where
+    by_test : (b : Bool) → is_some (if b then Some label else None) ≡ b
+    by_test true = refl
+    by_test false = refl
+
+pub if-ok-of : {A E : Type 0} (r : Result A E) (P Q : A → Type 0) → ((a : A) → P a → Q a) → IfOk r P → IfOk r Q
+if-ok-of (Ok a) P Q step holds = step a holds
+if-ok-of (Err e) P Q step holds = tt
