@@ -4,7 +4,7 @@ use std::alloc::Global;
 use std::collections::HashMap;
 use std::fmt;
 
-/// How many hosts are known one by one.
+/// How many hosts are known at most.
 const MOST_HOSTS: usize = 65_536;
 
 /// How long a host is left alone that failed once, in milliseconds.
@@ -43,6 +43,8 @@ pub struct Noted {
     pub is_tried: bool,
     /// Whether it ever replied.
     pub has_answered: bool,
+    /// Whether it replied last and did not fail since: then a delivery to it goes on.
+    has_replied: bool,
     /// Whether it was told that it fails.
     is_told: bool,
 }
@@ -60,6 +62,7 @@ impl Noted {
             waited: 0,
             is_tried: false,
             has_answered: false,
+            has_replied: false,
             is_told: false,
         }
     }
@@ -67,6 +70,11 @@ impl Noted {
     /// Whether its last exchange was of no use.
     pub fn is_failing(&self) -> bool {
         self.tries > 0
+    }
+
+    /// Whether it has to wait for its turn, where there is not room for all hosts: it fails, and no delivery to it goes on.
+    pub fn takes_turns(&self) -> bool {
+        self.is_failing() && !self.has_replied
     }
 
     /// Counts a message that waits for it in a round.
@@ -112,6 +120,7 @@ impl Noted {
             self.until = self.until.min(told);
         }
         self.tries = self.tries.saturating_add(1);
+        self.has_replied = false;
         let is_news = !self.is_told && now.saturating_sub(self.since) >= TOLD_FROM;
         self.is_told = self.is_told || is_news;
         is_news
@@ -131,19 +140,13 @@ impl Noted {
 /// The hosts that are known.
 pub struct Hosts {
     noted: HashMap<String, Noted>,
-    /// What is known of all hosts together for which there is no room.
-    others: Noted,
-    /// Until when none of those that are known one by one may be forgotten, in milliseconds.
+    /// Until when none of them may be forgotten, in milliseconds.
     full: u64,
 }
 
 impl Drop for Hosts {
     fn drop(self) {
-        let Hosts {
-            noted: _,
-            others: _,
-            full: _,
-        } = self;
+        let Hosts { noted: _, full: _ } = self;
     }
 }
 
@@ -152,7 +155,6 @@ impl Hosts {
     pub fn new(alloc: Global) -> Hosts {
         Hosts {
             noted: HashMap::new(alloc),
-            others: Noted::new(),
             full: 0,
         }
     }
@@ -161,16 +163,7 @@ impl Hosts {
     pub fn at(&self, host: &str) -> Noted {
         match self.noted.get(host) {
             Some(noted) => *noted,
-            None => self.of_unknown(),
-        }
-    }
-
-    /// What is known of a host that is none of those that are known one by one.
-    fn of_unknown(&self) -> Noted {
-        if self.noted.len() < MOST_HOSTS {
-            Noted::new()
-        } else {
-            self.others
+            None => Noted::new(),
         }
     }
 
@@ -181,25 +174,23 @@ impl Hosts {
                 noted.count(round);
                 *noted
             }
-            None => self.of_unknown(),
+            None => Noted::new(),
         }
     }
 
-    /// Knows this of a host. Where no host may be forgotten for it, all further ones are known together, so that none that
-    /// fails is asked again at once. Without memory a new one stays unknown.
-    fn put(&mut self, alloc: Global, host: &str, noted: Noted, now: u64) {
+    /// Knows this of a host. Without memory a new one stays unknown.
+    fn put(&mut self, alloc: Global, host: &str, noted: Noted) {
         if let Some(place) = self.noted.get_mut(host) {
             *place = noted;
-        } else if !self.has_room(alloc, now) {
-            self.others = noted;
         } else if let Ok(host) = String::from_str(alloc, host) {
             let _ = self.noted.insert(host, noted);
         }
     }
 
-    /// Whether there is room for another host, for which one may be forgotten that is left alone no longer.
-    fn has_room(&mut self, alloc: Global, now: u64) -> bool {
-        if self.noted.len() < MOST_HOSTS {
+    /// Whether a host is known, or may be: then there is room for one more, for which another may be forgotten that is left
+    /// alone no longer. Only then it is asked, so that none that fails is asked again at once.
+    pub fn has_room_for(&mut self, alloc: Global, host: &str, now: u64) -> bool {
+        if self.noted.len() < MOST_HOSTS || self.noted.get(host).is_some() {
             return true;
         }
         if now < self.full {
@@ -225,32 +216,40 @@ impl Hosts {
     }
 
     /// Notes that an exchange with a host begins.
-    pub fn begin(&mut self, alloc: Global, host: &str, now: u64) {
+    pub fn begin(&mut self, alloc: Global, host: &str) {
         let mut noted = self.at(host);
         noted.is_tried = true;
-        self.put(alloc, host, noted, now);
+        self.put(alloc, host, noted);
     }
 
-    /// Notes that an exchange with a host ended, and whether it replied.
-    pub fn end(&mut self, alloc: Global, host: &str, has_answered: bool, now: u64) {
+    /// Notes that an exchange with a host ended without a reply.
+    pub fn end(&mut self, alloc: Global, host: &str) {
         let mut noted = self.at(host);
         noted.is_tried = false;
-        noted.has_answered = noted.has_answered || has_answered;
-        self.put(alloc, host, noted, now);
+        self.put(alloc, host, noted);
+    }
+
+    /// Notes that an exchange with a host ended with a reply.
+    pub fn reply(&mut self, alloc: Global, host: &str) {
+        let mut noted = self.at(host);
+        noted.is_tried = false;
+        noted.has_answered = true;
+        noted.has_replied = true;
+        self.put(alloc, host, noted);
     }
 
     /// Leaves a host alone until then, though it did not fail.
-    pub fn rest(&mut self, alloc: Global, host: &str, until: u64, now: u64) {
+    pub fn rest(&mut self, alloc: Global, host: &str, until: u64) {
         let mut noted = self.at(host);
         noted.until = until;
-        self.put(alloc, host, noted, now);
+        self.put(alloc, host, noted);
     }
 
     /// Notes that a host failed, or was of no use: it is left alone for a while. Gives what is to be told of it.
     pub fn fail(&mut self, alloc: Global, host: &str, now: u64) -> Option<HostNote> {
         let mut noted = self.at(host);
         let is_news = noted.fail(now);
-        self.put(alloc, host, noted, now);
+        self.put(alloc, host, noted);
         if is_news {
             HostNote::of(alloc, host, noted.messages(), false)
         } else {
@@ -259,13 +258,13 @@ impl Hosts {
     }
 
     /// Notes that a host was of use. Gives what is to be told of it.
-    pub fn succeed(&mut self, alloc: Global, host: &str, now: u64) -> Option<HostNote> {
+    pub fn succeed(&mut self, alloc: Global, host: &str) -> Option<HostNote> {
         let mut noted = *self.noted.get(host)?;
         if !noted.is_failing() {
             return None;
         }
         let is_news = noted.succeed();
-        self.put(alloc, host, noted, now);
+        self.put(alloc, host, noted);
         if is_news {
             HostNote::of(alloc, host, noted.messages(), true)
         } else {

@@ -62,7 +62,7 @@ impl Kept {
 }
 
 /// Whether a request asks for a document, whose reply may be given more than once.
-fn asks_document(request: &[u8]) -> bool
+pub fn asks_document(request: &[u8]) -> bool
     ensures { result ≡ keeps.asks_document request.now }
 {
     request.starts_with(DOCUMENT)

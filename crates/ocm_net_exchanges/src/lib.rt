@@ -9,6 +9,7 @@ mod exchanges;
 mod hosts;
 mod keeps;
 mod names;
+mod orders;
 mod seats;
 mod tables;
 mod turns;

@@ -5,6 +5,15 @@ use std::alloc::Global;
 use std::net::Net;
 use std::thread::Threads;
 
+/// How many look-ups go on at a time.
+const MOST_LOOKUPS: u64 = 32;
+
+/// How many go on where one for a host that failed begins. So names that hang leave room for others.
+const MOST_FOR_FAILED: u64 = 16;
+
+/// How many look-ups are kept that outlived their exchanges, at most.
+const MOST_LATE: usize = 64;
+
 /// How many hosts' addresses are kept at most.
 const MOST_KEPT: usize = 256;
 
@@ -29,9 +38,49 @@ impl Drop for Named {
     }
 }
 
+/// A look-up that outlived the exchange that it was begun for.
+struct Late {
+    host: String,
+    lookup: Lookup,
+}
+
+impl Drop for Late {
+    fn drop(self) {
+        let Late { host: _, lookup: _ } = self;
+    }
+}
+
+impl Late {
+    /// The look-up.
+    fn into_lookup(self) -> Lookup {
+        let Late { host: _, lookup } = self;
+        lookup
+    }
+}
+
+/// Whether a host is an address itself.
+fn is_address(host: &str) -> bool {
+    match name_and_port(host) {
+        Some((name, _)) => is_literal(name),
+        None => false,
+    }
+}
+
+/// How many look-ups may go on where another begins for a host that takes turns or doesn't, and whose turn it is: none where
+/// it isn't.
+pub fn most_lookups(takes_turns: bool, is_turn: bool) -> u64 {
+    match (takes_turns, is_turn) {
+        (false, _) => MOST_LOOKUPS,
+        (true, true) => MOST_FOR_FAILED,
+        (true, false) => 0,
+    }
+}
+
 /// The addresses of hosts that answered of late, the oldest first, and the look-ups that go on.
 pub struct Names {
     lookups: Lookups,
+    /// The look-ups that outlived their exchanges, the oldest first, at most one of a host.
+    late: Vec<Late>,
     kept: Vec<Named>,
 }
 
@@ -39,6 +88,7 @@ impl Drop for Names {
     fn drop(self) {
         let Names {
             lookups: _,
+            late: _,
             kept: _,
         } = self;
     }
@@ -49,6 +99,7 @@ impl Names {
     pub fn new(alloc: Global, lookups: Lookups) -> Names {
         Names {
             lookups,
+            late: Vec::new(alloc),
             kept: Vec::new(alloc),
         }
     }
@@ -63,14 +114,14 @@ impl Names {
         None
     }
 
-    /// The addresses of a host that fails or doesn't, or the look-up for them, which begins now. None where there is no room
-    /// for another.
+    /// The addresses of a host, or the look-up for them, which begins now. None where there is no room for another, and where
+    /// one has to begin that may not.
     pub fn find<R: Threads + Net>(
-        &self,
+        &mut self,
         rt: &R,
         alloc: Global,
         host: &str,
-        is_failing: bool,
+        most: u64,
         now: u64,
     ) -> Option<(Option<Lookup>, Addresses)> {
         let Some((name, port)) = name_and_port(host) else {
@@ -82,13 +133,39 @@ impl Names {
         if let Some(addresses) = self.kept_for(host, now) {
             return Some((None, addresses));
         }
-        let lookup = self.lookups.begin(rt, alloc, name, port, is_failing)?;
+        if let Some(found) = self.late_for(host) {
+            return Some(found);
+        }
+        let lookup = self.lookups.begin(rt, alloc, name, port, most)?;
         Some((Some(lookup), Addresses::none()))
     }
 
-    /// Keeps the addresses of a host that answered, where there is memory for that.
+    /// The look-up of a host that outlived its exchange and goes on still, or the addresses that it found. It is kept no
+    /// longer.
+    fn late_for(&mut self, host: &str) -> Option<(Option<Lookup>, Addresses)> {
+        let place = self.late.iter().position(|it| it.host.as_str() == host)?;
+        let lookup = self.late.remove(place).into_lookup();
+        match lookup.found() {
+            None => Some((Some(lookup), Addresses::none())),
+            Some(addresses) if addresses.at(0).is_some() => Some((None, addresses)),
+            Some(_) => None,
+        }
+    }
+
+    /// Keeps a look-up of a host that outlived its exchange, where there is memory for that. So what it finds late is not
+    /// lost, and no second one begins beside it.
+    pub fn put_by(&mut self, alloc: Global, host: &str, lookup: Lookup) {
+        if self.late.len() >= MOST_LATE {
+            self.late.remove(0);
+        }
+        if let Ok(host) = String::from_str(alloc, host) {
+            let _ = self.late.push(Late { host, lookup });
+        }
+    }
+
+    /// Keeps the addresses of a host that answered, where they were looked up and there is memory for that.
     pub fn keep(&mut self, alloc: Global, host: &str, addresses: Addresses, now: u64) {
-        if self.kept_for(host, now).is_some() {
+        if is_address(host) || self.kept_for(host, now).is_some() {
             return;
         }
         self.kept.retain(|it| now < it.until);

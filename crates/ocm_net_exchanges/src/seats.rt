@@ -1,6 +1,6 @@
 //! The places of exchanges that are under way.
 
-use ocm_net_flights::Flight;
+use ocm_net_flights::{Flight, Lookup};
 use ocm_net_waits::Set;
 use std::alloc::{AllocError, Global};
 
@@ -10,8 +10,9 @@ const MOST_SEATS: usize = 128;
 /// How many places are free for hosts that do not fail.
 const KEPT_FREE: usize = 32;
 
-/// How long an exchange may be under way before it may be cut for another's, in milliseconds.
-const LEAST_TIME: u64 = 1_000;
+/// How long an exchange may be under way before it may be cut for another's, in milliseconds. Within that time one has to end
+/// by itself, or places are free too seldom.
+pub const LEAST_TIME: u64 = 1_000;
 
 /// An exchange that is under way with a host.
 pub struct Seat {
@@ -76,15 +77,15 @@ impl Seats {
         Ok(Seats { seats, taken: 0 })
     }
 
-    /// A place for an exchange with a host that fails, or doesn't.
-    pub fn room(&self, is_failing: bool, now: u64) -> Room {
-        let kept = if is_failing { KEPT_FREE } else { 0 };
+    /// A place for an exchange, and whether some stay free for those of others, and another's may be cut for it.
+    pub fn room(&self, leaves_some: bool, may_cut: bool, now: u64) -> Room {
+        let kept = if leaves_some { KEPT_FREE } else { 0 };
         if self.taken.saturating_add(kept) < MOST_SEATS {
             if let Some(place) = self.seats.iter().position(|seat| seat.is_none()) {
                 return Room::Free(place);
             }
         }
-        if is_failing {
+        if !may_cut {
             return Room::Full;
         }
         match self.longest(now) {
@@ -133,13 +134,13 @@ impl Seats {
         matches!(self.seats.get(place), Some(Some(_)))
     }
 
-    /// Takes the exchange at a place out of the set.
-    pub fn take(&mut self, place: usize, set: &Set) -> Option<Seat> {
+    /// Takes the exchange at a place out of the set, and the look-up of its host that goes on.
+    pub fn take(&mut self, place: usize, set: &Set) -> Option<(Seat, Option<Lookup>)> {
         let seat = self.seats.get_mut(place)?.take()?;
         self.taken = self.taken.saturating_sub(1);
         let mut seat = Box::into_inner(seat);
-        seat.flight.leave(set);
-        Some(seat)
+        let lookup = seat.flight.leave(set);
+        Some((seat, lookup))
     }
 
     /// When one of them is to be looked at again, though nothing comes, in milliseconds.

@@ -4,9 +4,10 @@ ghost use Rattle.std.specs.Prelude.{◌≡◌, IfOk};
 ghost use Rattle.ocm_net_exchanges.specs.Keeps.{reply_for};
 
 use crate::hosts::{HostNote, Hosts, Noted};
-use crate::keeps::Keeps;
-use crate::names::Names;
-use crate::seats::{Room, Seat, Seats};
+use crate::keeps::{Keeps, asks_document};
+use crate::names::{Names, most_lookups};
+use crate::orders::Order;
+use crate::seats::{LEAST_TIME, Room, Seat, Seats};
 use crate::turns::Turns;
 use ocm_base::{Bytes, and};
 use ocm_net_flights::{Addresses, ExchangeFault, Flight, Limits, Lookup, Lookups, Step};
@@ -18,7 +19,7 @@ use std::thread::Threads;
 /// The most bytes of a reply to a delivery.
 const MOST_REPLY: usize = 65_536;
 
-/// How long an exchange may take with a host that replied before, in milliseconds.
+/// How long an exchange may take with a host that replied before, or that another's document named, in milliseconds.
 const KNOWN_TIME: u64 = 20_000;
 
 /// How long an exchange may take with any other host, in milliseconds.
@@ -30,8 +31,8 @@ const PIECE: usize = 16_384;
 /// How long it is to the next try where there is no room, in milliseconds.
 const NO_ROOM: u64 = 1_000;
 
-/// How many notes wait to be told at most.
-pub const MOST_NOTES: usize = 64;
+/// How many notes wait to be told at most: more than there are exchanges under way, which may all end before one is told.
+pub const MOST_NOTES: usize = 256;
 
 /// The table.
 pub struct Table {
@@ -48,6 +49,12 @@ pub struct Table {
     replier: Option<String>,
     /// The place of the exchange that this round waits for, behind which none has to follow.
     awaited: Option<usize>,
+    /// When an exchange ended last that was not cut for another's, in milliseconds.
+    ended: u64,
+    /// Whose turn it is to get a place, of hosts that failed.
+    placing: Order,
+    /// Whose turn it is to be looked up, of hosts that failed.
+    naming: Order,
     /// When rounds are due.
     pub turns: Turns,
 }
@@ -64,16 +71,19 @@ impl Drop for Table {
             has_replied: _,
             replier: _,
             awaited: _,
+            ended: _,
+            placing: _,
+            naming: _,
             turns: _,
         } = self;
     }
 }
 
-/// How far an exchange may go with a host.
-fn limits_for(noted: Noted) -> Limits {
+/// How far an exchange may go with a host. A post is made where a document told, so somebody replied.
+fn limits_for(noted: Noted, request: &Bytes) -> Limits {
     Limits {
         most: MOST_REPLY,
-        whole: if noted.has_answered {
+        whole: if noted.has_answered || !asks_document(request.as_slice()) {
             KNOWN_TIME
         } else {
             UNKNOWN_TIME
@@ -93,8 +103,9 @@ fn seated(
 ) -> Result<Box<Seat>, ExchangeFault> {
     let (lookup, addresses) = found;
     let host = String::from_str(alloc, host)?;
+    let limits = limits_for(noted, request);
     let request = request.copy()?;
-    let flight = Flight::new(request, limits_for(noted), now, lookup, addresses);
+    let flight = Flight::new(request, limits, now, lookup, addresses);
     let seat = Seat {
         host,
         flight,
@@ -121,6 +132,9 @@ impl Table {
             has_replied: false,
             replier: None,
             awaited: None,
+            ended: 0,
+            placing: Order::new(),
+            naming: Order::new(),
             turns: Turns::new(),
         })
     }
@@ -164,17 +178,21 @@ impl Table {
             self.turns.call_at(noted.until);
             return Ok(None);
         }
+        if !self.hosts.has_room_for(alloc, host, now) {
+            self.turns.call_at(now.saturating_add(NO_ROOM));
+            return Ok(None);
+        }
         let Some(place) = self.place_for(alloc, set, noted, now) else {
             self.turns.call_at(now.saturating_add(NO_ROOM));
             return Ok(None);
         };
-        let Some(found) = self.names.find(rt, alloc, host, noted.is_failing(), now) else {
+        let Some(found) = self.addresses_of(rt, alloc, host, noted, now) else {
             self.turns.call_at(now.saturating_add(NO_ROOM));
             return Ok(None);
         };
         match seated(alloc, host, request, noted, now, found) {
             Ok(seat) => {
-                self.hosts.begin(alloc, host, now);
+                self.hosts.begin(alloc, host);
                 self.seats.put(place, seat);
                 self.awaited = Some(place);
                 self.launch(alloc, set, place, now);
@@ -188,16 +206,50 @@ impl Table {
         }
     }
 
-    /// A place for an exchange, for which another's may be cut.
+    /// A place for an exchange, for which another's may be cut. None where there is none, or where it is the turn of others.
     fn place_for(&mut self, alloc: Global, set: &Set, noted: Noted, now: u64) -> Option<usize> {
-        match self.seats.room(noted.is_failing(), now) {
+        let message = self.turns.messages();
+        let takes_turns = noted.takes_turns();
+        if takes_turns && !self.placing.is_turn(self.turns.round(), message) {
+            return None;
+        }
+        let may_cut = !noted.is_failing() && now.saturating_sub(self.ended) >= LEAST_TIME;
+        match self.seats.room(takes_turns, may_cut, now) {
             Room::Free(place) => Some(place),
             Room::Cut(place) => {
+                let ended = self.ended;
                 self.end(alloc, set, place, Step::Failed, now);
+                self.ended = ended;
                 Some(place)
             }
-            Room::Full => None,
+            Room::Full => {
+                if takes_turns {
+                    self.placing.refuse(message);
+                }
+                None
+            }
         }
+    }
+
+    /// The addresses of a host, or the look-up for them. None where there is no room for that, or where it is the turn of
+    /// others.
+    fn addresses_of<R: Threads + Net>(
+        &mut self,
+        rt: &R,
+        alloc: Global,
+        host: &str,
+        noted: Noted,
+        now: u64,
+    ) -> Option<(Option<Lookup>, Addresses)> {
+        let message = self.turns.messages();
+        let is_turn = self.naming.is_turn(self.turns.round(), message);
+        let takes_turns = noted.takes_turns();
+        let most = most_lookups(takes_turns, is_turn);
+        let found = self.names.find(rt, alloc, host, most, now);
+        if found.is_none() && takes_turns && is_turn {
+            self.naming.refuse(message);
+        }
+        found
     }
 
     /// Begins the exchange at a place.
@@ -239,10 +291,14 @@ impl Table {
     /// Ends the exchange at a place: its reply is kept, or its host is left alone for a while. Where there was no memory for
     /// the reply, which is no fault of the host, a message is posted again; hosts take one that they had before.
     fn end(&mut self, alloc: Global, set: &Set, place: usize, step: Step, now: u64) {
-        let Some(seat) = self.seats.take(place, set) else {
+        let Some((seat, lookup)) = self.seats.take(place, set) else {
             return;
         };
         let (host, flight) = seat.into_parts();
+        if let Some(lookup) = lookup {
+            self.names.put_by(alloc, host.as_str(), lookup);
+        }
+        self.ended = now;
         let addresses = flight.addresses();
         let (request, came) = flight.into_ended(step);
         if self.awaited != Some(place) {
@@ -250,17 +306,18 @@ impl Table {
         }
         match came {
             Ok(reply) => {
-                self.hosts.end(alloc, host.as_str(), true, now);
+                self.hosts.reply(alloc, host.as_str());
                 self.names.keep(alloc, host.as_str(), addresses, now);
                 let _ = self.keeps.put(host, request, reply, now);
             }
             Err(ExchangeFault::NoMemory) => {
-                self.hosts.end(alloc, host.as_str(), false, now);
-                self.hosts
-                    .rest(alloc, host.as_str(), now.saturating_add(NO_ROOM), now);
+                let soon = now.saturating_add(NO_ROOM);
+                self.hosts.end(alloc, host.as_str());
+                self.hosts.rest(alloc, host.as_str(), soon);
+                self.turns.call_at(soon);
             }
             Err(ExchangeFault::Failed) => {
-                self.hosts.end(alloc, host.as_str(), false, now);
+                self.hosts.end(alloc, host.as_str());
                 self.names.forget(host.as_str());
                 self.fail(alloc, host.as_str(), now);
             }
@@ -296,9 +353,9 @@ impl Table {
         let replier = self.replier.take();
         if settles {
             self.turns.call();
-            self.succeed(alloc, host, now);
+            self.succeed(alloc, host);
             if let Some(replier) = &replier {
-                self.succeed(alloc, replier.as_str(), now);
+                self.succeed(alloc, replier.as_str());
             }
         } else if self.has_replied {
             self.fail(alloc, host, now);
@@ -308,8 +365,8 @@ impl Table {
     }
 
     /// Notes that a host was of use.
-    fn succeed(&mut self, alloc: Global, host: &str, now: u64) {
-        let note = self.hosts.succeed(alloc, host, now);
+    fn succeed(&mut self, alloc: Global, host: &str) {
+        let note = self.hosts.succeed(alloc, host);
         self.note(note);
     }
 

@@ -57,6 +57,11 @@ impl Turns {
         self.messages = self.messages.saturating_add(1);
     }
 
+    /// How many messages this round tried before.
+    pub fn messages(&self) -> u64 {
+        self.messages
+    }
+
     /// How long this round still waits for peers, in milliseconds.
     pub fn patience(&self) -> u64 {
         self.patience

@@ -186,12 +186,12 @@ impl Flight {
         }
     }
 
-    /// Takes what it holds out of the set.
-    pub fn leave(&mut self, set: &Set) {
+    /// Takes what it holds out of the set. Gives the look-up that goes on, as it does without the exchange.
+    pub fn leave(&mut self, set: &Set) -> Option<Lookup> {
         if let Some(lookup) = &self.lookup {
             set.remove(lookup.fd());
         }
-        self.lookup = None;
+        self.lookup.take()
     }
 
     /// The request, and the connection that it came to.

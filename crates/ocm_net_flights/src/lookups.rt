@@ -10,12 +10,6 @@ use std::sync::{Arc, OnceLock};
 use std::thread;
 use std::thread::Threads;
 
-/// How many look-ups go on at a time, those that nobody waits for among them.
-const MOST_LOOKUPS: u64 = 32;
-
-/// How many go on where one for a host that fails begins. So names that hang leave room for others.
-const MOST_FOR_FAILING: u64 = 16;
-
 /// What a thread that looks a name up shares with who waits for it. Each holds it, so that a late thread rings no
 /// other's bell.
 struct Shared {
@@ -58,32 +52,23 @@ fn look_up(shared: &Shared, running: &AtomicU64, name: &str, port: u16) {
     shared.bell.end();
 }
 
-/// How many look-ups may go on once another begins for a host that fails, or doesn't.
-fn most_for(is_failing: bool) -> u64 {
-    if is_failing {
-        MOST_FOR_FAILING
-    } else {
-        MOST_LOOKUPS
-    }
-}
-
 impl Lookups {
     /// None goes on.
     pub fn new(running: Arc<AtomicU64, Global>) -> Lookups {
         Lookups { running }
     }
 
-    /// Begins to look up a name, of a host that fails or doesn't. None where too many go on, or the system has no room for
-    /// another.
+    /// Begins to look up a name. None where so many go on already, those that nobody waits for among them, or the system has
+    /// no room for another.
     pub fn begin<R: Threads + Net>(
         &self,
         rt: &R,
         alloc: Global,
         name: &str,
         port: u16,
-        is_failing: bool,
+        most: u64,
     ) -> Option<Lookup> {
-        if self.running.load(Ordering::SeqCst) >= most_for(is_failing) {
+        if self.running.load(Ordering::SeqCst) >= most {
             return None;
         }
         let bell = Bell::new(rt).ok()?;

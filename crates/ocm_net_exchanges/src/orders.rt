@@ -1,0 +1,41 @@
+//! Whose turn it is of hosts that failed, where there is not room for all of them.
+
+/// The order in which hosts that failed get room. Where there is none for the host of a message, the next round begins with
+/// that message, and one that had room for all begins from the front again. So none of them waits for the others without end.
+#[derive(Clone, Copy)]
+pub struct Order {
+    /// The round.
+    round: u64,
+    /// The place of the first message whose host may get room in this round.
+    first: u64,
+    /// The place of the first message of this round for whose host there was no room.
+    refused: Option<u64>,
+}
+
+impl Order {
+    /// All may get room.
+    pub fn new() -> Order {
+        Order {
+            round: 0,
+            first: 0,
+            refused: None,
+        }
+    }
+
+    /// Whether the host of the message at this place of a round may get room.
+    pub fn is_turn(&mut self, round: u64, message: u64) -> bool {
+        if self.round != round {
+            self.round = round;
+            self.first = self.refused.unwrap_or(0);
+            self.refused = None;
+        }
+        message >= self.first
+    }
+
+    /// Notes that there was no room for the host of the message at this place, whose turn it was.
+    pub fn refuse(&mut self, message: u64) {
+        if self.refused.is_none() {
+            self.refused = Some(message);
+        }
+    }
+}
