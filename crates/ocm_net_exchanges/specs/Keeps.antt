@@ -1,7 +1,8 @@
 -- Replies that wait to be asked for, the oldest first.
-use Rattle.std.specs.Prelude.{ℕ, ◌+◌, ◌-◌, ◌^◌, min, nat_eq, nat_le, nat_lt, List, [], ◌∷◌, ◌++◌, length, filter, remove, position, slice_get, Bool, not, ◌&&◌, if◌then◌else◌, bytes_eq, codes, Option, Some, None, option_map, option_and_then}
+use Rattle.std.specs.Prelude.{ℕ, ◌+◌, ◌-◌, ◌^◌, min, nat_eq, nat_le, nat_lt, List, [], ◌∷◌, ◌++◌, length, filter, remove, position, slice_get, Bool, not, ◌&&◌, if◌then◌else◌, bytes_eq, codes, String, Option, Some, None, option_map, option_and_then}
 use Rattle.std.specs.List.{starts_with}
 use Rattle.std.specs.String.{string_bytes}
+use Rattle.std.specs.declared.alloc.Global.{Global}
 use Rattle.ocm_net_exchanges.specs.declared.keeps.Kept.{Kept}
 
 -- whether a request asks for a document, whose reply may be given more than once
@@ -10,7 +11,7 @@ asks_document request = starts_with nat_eq request (codes "GET ")
 
 -- until when a reply is kept that comes at this moment, in milliseconds
 abbrev pub kept_until : ℕ → List ℕ → ℕ
-kept_until now request = min (now + (if asks_document request then 10000 else 60000)) (2 ^ 64 - 1)
+kept_until now request = min (now + (if asks_document request then 10000 else 90000)) (2 ^ 64 - 1)
 
 -- whether a reply is kept still at this moment
 abbrev pub is_kept : ℕ → Kept → Bool
@@ -20,9 +21,17 @@ is_kept now it = nat_lt now it.until
 abbrev pub is_for : List ℕ → List ℕ → Kept → Bool
 is_for host request it = bytes_eq (string_bytes it.host) host && bytes_eq it.request request
 
--- whether it is one of another host
-abbrev pub is_of_other : List ℕ → Kept → Bool
-is_of_other host it = not (bytes_eq (string_bytes it.host) host)
+-- whether it is a document
+abbrev pub is_document : Kept → Bool
+is_document it = asks_document it.request
+
+-- whether it is a document of this host
+abbrev pub is_document_of : List ℕ → Kept → Bool
+is_document_of host it = bytes_eq (string_bytes it.host) host && is_document it
+
+-- whether it stays where the documents of this host are forgotten
+abbrev pub stays : List ℕ → Kept → Bool
+stays host it = not (is_document_of host it)
 
 -- where the first reply is that is kept for just this host and these bytes
 abbrev pub place_for : List ℕ → List ℕ → ℕ → List Kept → Option ℕ
@@ -41,6 +50,19 @@ without (Some place) kept = remove kept place
 abbrev pub left_after : List ℕ → List ℕ → ℕ → List Kept → List Kept
 left_after host request now kept = if asks_document request then kept else without (place_for host request now kept) kept
 
--- the replies with room for one more: without the oldest, where there are as many as may be
+-- the replies without the one at this place, or without the oldest
+abbrev pub without_or_oldest : Option ℕ → List Kept → List Kept
+without_or_oldest None kept = remove kept 0
+without_or_oldest (Some place) kept = remove kept place
+
+-- the replies with room for one more: where there are as many as may be, without the oldest document, and without the oldest reply where none is a document
 abbrev pub with_room : List Kept → List Kept
-with_room kept = if nat_le 512 (length kept) then remove kept 0 else kept
+with_room kept = if nat_le 512 (length kept) then without_or_oldest (position is_document kept) kept else kept
+
+-- the host of the oldest document, and until when that is kept
+abbrev pub oldest : List Kept → Option (String Global × ℕ)
+oldest kept = option_map (λ (it : Kept). (it.host, it.until)) (option_and_then (slice_get kept) (position is_document kept))
+
+-- the host of the document that makes room for one more, where one does, and until when it would have been kept
+abbrev pub leaving : List Kept → Option (String Global × ℕ)
+leaving kept = if nat_le 512 (length kept) then oldest kept else None

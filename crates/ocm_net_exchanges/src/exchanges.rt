@@ -20,8 +20,11 @@ use std::{io, time};
 /// The token of the bell. The others are places.
 const BELL: u64 = u64::MAX;
 
-/// How many events one wait tells.
-const EVENTS: usize = 64;
+/// How many events one wait tells: those of all places, and of the bell.
+const EVENTS: usize = 129;
+
+/// How long a round leaves the exchanges alone at most, in milliseconds, until it looks what came.
+const LONGEST_UNSEEN: u64 = 50;
 
 /// How often one exchange looks for its reply at most.
 const MOST_LOOKS: u32 = 100_000;
@@ -85,6 +88,7 @@ impl<'a, R: Wait + time::Clock> Exchanges<'a, R> {
         R: Threads + Net,
         ensures { IfOk result (λ reply. length reply ≤ most_exchange_bytes) }
     {
+        self.catch_up();
         if let Some(reply) = self.kept(host, request)? {
             return bounded(reply);
         }
@@ -113,6 +117,19 @@ impl<'a, R: Wait + time::Clock> Exchanges<'a, R> {
         let now = millis(self.rt);
         let mut guard = self.table.lock(self.rt);
         guard.begin(self.rt, self.alloc, &self.set, host, request, now)
+    }
+
+    /// Drives the exchanges without waiting, where that was not done for long. A round of many settlements takes long, and an
+    /// exchange that could have ended would else count as one that takes long.
+    fn catch_up(&self) {
+        let now = millis(self.rt);
+        let driven = {
+            let guard = self.table.lock(self.rt);
+            guard.turns.driven()
+        };
+        if now.saturating_sub(driven) >= LONGEST_UNSEEN {
+            self.drive(0);
+        }
     }
 
     /// Drives the exchanges until that at a place ended, or the round has no patience left.
@@ -149,6 +166,7 @@ impl<'a, R: Wait + time::Clock> Exchanges<'a, R> {
         let now = millis(self.rt);
         let mut guard = self.table.lock(self.rt);
         let table = &mut *guard;
+        table.turns.drive(now);
         for event in events.iter().take(count) {
             let token = event.data;
             if token == BELL {

@@ -22,29 +22,61 @@ const LONGEST_PAUSE: u64 = 60_000;
 /// For how long a host has to fail before that is told, in milliseconds.
 const TOLD_FROM: u64 = 60_000;
 
+/// Where no message waited for a host for so long, its failures before that are forgotten, in milliseconds: its messages came to
+/// an end otherwise.
+const STALE: u64 = 3_600_000;
+
+/// How a host stands where there is not room for all of them.
+#[derive(Clone, Copy, PartialEq, Eq)]
+pub enum Standing {
+    /// It fails, and no delivery to it goes on.
+    Failing,
+    /// Its document was of no use yet, and no delivery to it goes on.
+    PutOff,
+    /// Any other.
+    Free,
+}
+
 /// What is known of a host.
 #[derive(Clone, Copy)]
 pub struct Noted {
     /// Until when it is left alone, in milliseconds.
     pub until: u64,
+    /// From when on it may be asked for its document again, in milliseconds, where its last reply was of no use, or its last
+    /// document of no use yet, since that named another host that has to be waited for. Else 0.
+    documents_from: u64,
     /// How long it was left alone last, in milliseconds: 0 where its last exchange was of use.
     pause: u64,
     /// When the first exchange of those ended that were of no use since, in milliseconds.
     since: u64,
     /// How many these are.
     tries: u32,
+    /// When a message waited for it last, in milliseconds.
+    asked: u64,
     /// The last round in which a message waited for it.
     round: u64,
     /// How many messages waited for it in that round, so far.
     waiting: u32,
-    /// How many waited for it in the round before that.
-    waited: u32,
+    /// The most that waited for it in one round since it failed last.
+    most: u32,
+    /// How many hosts were put off since then whose documents name it.
+    namers: u32,
+    /// How many messages waited for it before that failure.
+    most_before: u32,
+    /// The last round that had a message to this host.
+    message_round: u64,
+    /// How many messages to it that round had so far that stay due.
+    passed: u32,
+    /// How many of them go ahead of the first that may be tried.
+    ahead: u32,
     /// Whether an exchange with it goes on.
     pub is_tried: bool,
     /// Whether it ever replied.
     pub has_answered: bool,
-    /// Whether it replied last and did not fail since: then a delivery to it goes on.
+    /// Whether it replied last, and did not fail since, nor was its document put off: then a delivery to it goes on.
     has_replied: bool,
+    /// Whether it failed by a reply of no use last, so that it can be reached.
+    is_useless: bool,
     /// Whether it was told that it fails.
     is_told: bool,
 }
@@ -54,47 +86,118 @@ impl Noted {
     fn new() -> Noted {
         Noted {
             until: 0,
+            documents_from: 0,
             pause: 0,
             since: 0,
             tries: 0,
+            asked: 0,
             round: 0,
             waiting: 0,
-            waited: 0,
+            most: 0,
+            namers: 0,
+            most_before: 0,
+            message_round: 0,
+            passed: 0,
+            ahead: 0,
             is_tried: false,
             has_answered: false,
             has_replied: false,
+            is_useless: false,
             is_told: false,
         }
     }
 
-    /// Whether its last exchange was of no use.
-    pub fn is_failing(&self) -> bool {
-        self.tries > 0
+    /// From when on it may be asked for a document, or for anything else, in milliseconds.
+    pub fn free_from(&self, asks_document: bool) -> u64 {
+        if asks_document {
+            self.until.max(self.documents_from)
+        } else {
+            self.until
+        }
     }
 
-    /// Whether it has to wait for its turn, where there is not room for all hosts: it fails, and no delivery to it goes on.
-    pub fn takes_turns(&self) -> bool {
-        self.is_failing() && !self.has_replied
+    /// Whether it fails as one that is asked for a document, or for anything else. One whose replies are of no use can be
+    /// reached.
+    pub fn is_failing(&self, asks_document: bool) -> bool {
+        self.tries > 0 && (asks_document || !self.is_useless)
+    }
+
+    /// How it stands as one that is asked for a document, or for anything else.
+    pub fn standing(&self, asks_document: bool) -> Standing {
+        if self.has_replied {
+            Standing::Free
+        } else if self.is_failing(asks_document) {
+            Standing::Failing
+        } else if asks_document && self.documents_from > 0 {
+            Standing::PutOff
+        } else {
+            Standing::Free
+        }
+    }
+
+    /// Whether it neither fails nor takes turns, as one that is asked for a document, or for anything else.
+    pub fn is_well(&self, asks_document: bool) -> bool {
+        self.standing(asks_document) == Standing::Free && !self.is_failing(asks_document)
+    }
+
+    /// Notes that its document is of no use yet: it is not asked for again before then, in milliseconds. Answers whether it
+    /// might have been.
+    fn put_off(&mut self, until: u64) -> bool {
+        let might = self.documents_from < until;
+        self.documents_from = self.documents_from.max(until);
+        self.has_replied = false;
+        might
     }
 
     /// Counts a message that waits for it in a round.
-    fn count(&mut self, round: u64) {
+    fn count(&mut self, round: u64, now: u64) {
+        if now.saturating_sub(self.asked) >= STALE {
+            self.forget_failures();
+        }
+        self.asked = now;
         if self.round != round {
             self.round = round;
-            self.waited = self.waiting;
             self.waiting = 0;
         }
         self.waiting = self.waiting.saturating_add(1);
+        self.most = self.most.max(self.waiting);
     }
 
-    /// How many messages wait for it. A round that is not over may not have counted all of them.
+    /// Whether the next message to it in a round may be tried. Where the reply to one was of no use, those behind it go first,
+    /// and once there was none the first may be tried again. So no message holds up the others for ever.
+    fn is_turn(&mut self, round: u64) -> bool {
+        if self.message_round != round {
+            self.message_round = round;
+            if self.passed <= self.ahead {
+                self.ahead = 0;
+            }
+            self.passed = 0;
+        }
+        self.passed >= self.ahead
+    }
+
+    /// Goes on to the next message to it in a round behind one that stays due, and whose reply was of no use or did not come.
+    fn pass(&mut self, round: u64, is_useless: bool) {
+        self.is_turn(round);
+        self.passed = self.passed.saturating_add(1);
+        if is_useless {
+            self.ahead = self.passed;
+        }
+    }
+
+    /// How many messages waited for it since it failed last, as far as they were counted.
+    fn messages_since(&self) -> u32 {
+        self.most.max(self.namers)
+    }
+
+    /// How many messages wait for it. Since it failed last not all of them may have been counted.
     fn messages(&self) -> u32 {
-        self.waiting.max(self.waited)
+        self.messages_since().max(self.most_before)
     }
 
     /// Whether it may be forgotten: it is left alone no longer, and no exchange with it goes on.
     fn is_over(&self, now: u64) -> bool {
-        !self.is_tried && self.until <= now
+        !self.is_tried && self.free_from(true) <= now
     }
 
     /// How long it is left alone that fails now again.
@@ -107,19 +210,29 @@ impl Noted {
         self.pause.saturating_mul(2).min(longest)
     }
 
-    /// Notes an exchange of no use. Answers whether that is to be told now.
-    fn fail(&mut self, now: u64) -> bool {
-        if self.tries == 0 {
+    /// Notes an exchange that failed, or a reply of no use. Answers whether that is to be told now.
+    fn fail(&mut self, is_useless: bool, now: u64) -> bool {
+        if self.tries == 0 || self.is_useless != is_useless {
             self.since = now;
+            self.pause = 0;
         }
         self.pause = self.next_pause(now);
-        self.until = now.saturating_add(self.pause);
+        let mut end = now.saturating_add(self.pause);
         let told = self.since.saturating_add(TOLD_FROM);
         if now < told {
             // The try at that time decides whether it is told.
-            self.until = self.until.min(told);
+            end = end.min(told);
         }
+        if is_useless {
+            self.documents_from = end;
+        } else {
+            self.until = end;
+        }
+        self.is_useless = is_useless;
         self.tries = self.tries.saturating_add(1);
+        self.most_before = self.messages_since();
+        self.most = 0;
+        self.namers = 0;
         self.has_replied = false;
         let is_news = !self.is_told && now.saturating_sub(self.since) >= TOLD_FROM;
         self.is_told = self.is_told || is_news;
@@ -130,10 +243,17 @@ impl Noted {
     fn succeed(&mut self) -> bool {
         let is_news = self.is_told;
         self.until = 0;
+        self.documents_from = 0;
+        self.forget_failures();
+        is_news
+    }
+
+    /// Counts as one that did not fail.
+    fn forget_failures(&mut self) {
         self.pause = 0;
         self.tries = 0;
+        self.is_useless = false;
         self.is_told = false;
-        is_news
     }
 }
 
@@ -168,10 +288,10 @@ impl Hosts {
     }
 
     /// What is known of a host for which a message waits in a round, which is counted.
-    pub fn waited_for(&mut self, host: &str, round: u64) -> Noted {
+    pub fn waited_for(&mut self, host: &str, round: u64, now: u64) -> Noted {
         match self.noted.get_mut(host) {
             Some(noted) => {
-                noted.count(round);
+                noted.count(round, now);
                 *noted
             }
             None => Noted::new(),
@@ -245,10 +365,56 @@ impl Hosts {
         self.put(alloc, host, noted);
     }
 
-    /// Notes that a host failed, or was of no use: it is left alone for a while. Gives what is to be told of it.
-    pub fn fail(&mut self, alloc: Global, host: &str, now: u64) -> Option<HostNote> {
+    /// Whether the next message to a host in a round may be tried.
+    pub fn is_turn(&mut self, host: &str, round: u64) -> bool {
+        match self.noted.get_mut(host) {
+            Some(noted) => noted.is_turn(round),
+            None => true,
+        }
+    }
+
+    /// Goes on to the next message to a host in a round behind one that stays due, and whose reply was of no use or did not
+    /// come.
+    pub fn pass(&mut self, host: &str, round: u64, is_useless: bool) {
+        if let Some(noted) = self.noted.get_mut(host) {
+            noted.pass(round, is_useless);
+        }
+    }
+
+    /// Notes that the document of a host is of no use yet, where that host is known: it is not asked for again before then,
+    /// when the host that it names may be asked again.
+    pub fn put_off_document(&mut self, host: &str, named: &str, until: u64) {
+        let might = match self.noted.get_mut(host) {
+            Some(noted) => noted.put_off(until),
+            None => false,
+        };
+        if let Some(noted) = self.noted.get_mut(named) {
+            if might && noted.until == until {
+                noted.namers = noted.namers.saturating_add(1);
+            }
+        }
+    }
+
+    /// Notes that the document of a host is kept no longer: one that was of no use yet is not asked for again before then.
+    pub fn lose_document(&mut self, host: &str, until: u64) {
+        if let Some(noted) = self.noted.get_mut(host) {
+            if noted.documents_from > 0 {
+                noted.put_off(until);
+            }
+        }
+    }
+
+    /// Notes that a host failed: it is left alone for a while. Where its reply was of no use it is only not asked for its
+    /// document, since other hosts' documents may name it. Gives what is to be told of it.
+    pub fn fail(
+        &mut self,
+        alloc: Global,
+        host: &str,
+        is_useless: bool,
+        now: u64,
+    ) -> Option<HostNote> {
         let mut noted = self.at(host);
-        let is_news = noted.fail(now);
+        let is_news = noted.fail(is_useless, now);
         self.put(alloc, host, noted);
         if is_news {
             HostNote::of(alloc, host, noted.messages(), false)
@@ -257,15 +423,19 @@ impl Hosts {
         }
     }
 
-    /// Notes that a host was of use. Gives what is to be told of it.
-    pub fn succeed(&mut self, alloc: Global, host: &str) -> Option<HostNote> {
-        let mut noted = *self.noted.get(host)?;
-        if !noted.is_failing() {
-            return None;
+    /// Notes that a host was of use to a message for another one, so that it can be reached. Gives what is to be told of it.
+    pub fn reach(&mut self, alloc: Global, host: &str) -> Option<HostNote> {
+        if self.noted.get(host)?.is_useless {
+            None
+        } else {
+            self.succeed(alloc, host)
         }
-        let is_news = noted.succeed();
-        self.put(alloc, host, noted);
-        if is_news {
+    }
+
+    /// Notes that a message to a host was settled. Gives what is to be told of it.
+    pub fn succeed(&mut self, alloc: Global, host: &str) -> Option<HostNote> {
+        let noted = self.noted.get_mut(host)?;
+        if noted.succeed() {
             HostNote::of(alloc, host, noted.messages(), true)
         } else {
             None

@@ -1,5 +1,6 @@
 //! The addresses of hosts, looked up beside what goes on.
 
+use crate::hosts::Standing;
 use ocm_net_flights::{Addresses, Lookup, Lookups, is_literal, name_and_port};
 use std::alloc::Global;
 use std::net::Net;
@@ -10,6 +11,9 @@ const MOST_LOOKUPS: u64 = 32;
 
 /// How many go on where one for a host that failed begins. So names that hang leave room for others.
 const MOST_FOR_FAILED: u64 = 16;
+
+/// How many go on where one for a host begins whose document was put off.
+const MOST_FOR_PUT_OFF: u64 = 24;
 
 /// How many look-ups are kept that outlived their exchanges, at most.
 const MOST_LATE: usize = 64;
@@ -66,13 +70,12 @@ fn is_address(host: &str) -> bool {
     }
 }
 
-/// How many look-ups may go on where another begins for a host that takes turns or doesn't, and whose turn it is: none where
-/// it isn't.
-pub fn most_lookups(takes_turns: bool, is_turn: bool) -> u64 {
-    match (takes_turns, is_turn) {
-        (false, _) => MOST_LOOKUPS,
-        (true, true) => MOST_FOR_FAILED,
-        (true, false) => 0,
+/// How many look-ups may go on where another begins for a host that stands so.
+pub fn most_lookups(standing: Standing) -> u64 {
+    match standing {
+        Standing::Failing => MOST_FOR_FAILED,
+        Standing::PutOff => MOST_FOR_PUT_OFF,
+        Standing::Free => MOST_LOOKUPS,
     }
 }
 
@@ -112,6 +115,14 @@ impl Names {
             }
         }
         None
+    }
+
+    /// Whether the addresses of a host are known, or a look-up for them goes on, or may begin where at most so many go on.
+    pub fn may_find(&self, host: &str, most: u64, now: u64) -> bool {
+        is_address(host)
+            || self.kept_for(host, now).is_some()
+            || self.late.iter().any(|it| it.host.as_str() == host)
+            || self.lookups.has_room(most)
     }
 
     /// The addresses of a host, or the look-up for them, which begins now. None where there is no room for another, and where

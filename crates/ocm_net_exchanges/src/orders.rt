@@ -1,9 +1,11 @@
-//! Whose turn it is of hosts that failed, where there is not room for all of them.
+//! Whose turn it is of hosts that failed, or whose documents were put off, where there is not room for all of them.
 
-/// The order in which hosts that failed get room. Where there is none for the host of a message, the next round begins with
+use crate::hosts::Standing;
+
+/// The order in which hosts of one standing get room. Where there is none for the host of a message, the next round begins with
 /// that message, and one that had room for all begins from the front again. So none of them waits for the others without end.
 #[derive(Clone, Copy)]
-pub struct Order {
+struct Order {
     /// The round.
     round: u64,
     /// The place of the first message whose host may get room in this round.
@@ -14,7 +16,7 @@ pub struct Order {
 
 impl Order {
     /// All may get room.
-    pub fn new() -> Order {
+    fn new() -> Order {
         Order {
             round: 0,
             first: 0,
@@ -23,7 +25,7 @@ impl Order {
     }
 
     /// Whether the host of the message at this place of a round may get room.
-    pub fn is_turn(&mut self, round: u64, message: u64) -> bool {
+    fn is_turn(&mut self, round: u64, message: u64) -> bool {
         if self.round != round {
             self.round = round;
             self.first = self.refused.unwrap_or(0);
@@ -33,9 +35,50 @@ impl Order {
     }
 
     /// Notes that there was no room for the host of the message at this place, whose turn it was.
-    pub fn refuse(&mut self, message: u64) {
+    fn refuse(&mut self, message: u64) {
         if self.refused.is_none() {
             self.refused = Some(message);
+        }
+    }
+}
+
+/// The orders of those that take turns.
+#[derive(Clone, Copy)]
+pub struct Orders {
+    failing: Order,
+    put_off: Order,
+}
+
+impl Orders {
+    /// All may get room.
+    pub fn new() -> Orders {
+        Orders {
+            failing: Order::new(),
+            put_off: Order::new(),
+        }
+    }
+
+    /// The order of a standing, where it takes turns.
+    fn of(&mut self, standing: Standing) -> Option<&mut Order> {
+        match standing {
+            Standing::Failing => Some(&mut self.failing),
+            Standing::PutOff => Some(&mut self.put_off),
+            Standing::Free => None,
+        }
+    }
+
+    /// Whether the host of the message at this place of a round may get room, by its standing.
+    pub fn is_turn(&mut self, standing: Standing, round: u64, message: u64) -> bool {
+        match self.of(standing) {
+            Some(order) => order.is_turn(round, message),
+            None => true,
+        }
+    }
+
+    /// Notes that there was no room for the host of the message at this place, whose turn it was.
+    pub fn refuse(&mut self, standing: Standing, message: u64) {
+        if let Some(order) = self.of(standing) {
+            order.refuse(message);
         }
     }
 }

@@ -1,5 +1,6 @@
 //! The places of exchanges that are under way.
 
+use crate::hosts::Standing;
 use ocm_net_flights::{Flight, Lookup};
 use ocm_net_waits::Set;
 use std::alloc::{AllocError, Global};
@@ -7,17 +8,31 @@ use std::alloc::{AllocError, Global};
 /// How many exchanges are under way at most.
 const MOST_SEATS: usize = 128;
 
-/// How many places are free for hosts that do not fail.
-const KEPT_FREE: usize = 32;
+/// How many places hosts have at most that fail.
+const MOST_FAILING: usize = 64;
 
-/// How long an exchange may be under way before it may be cut for another's, in milliseconds. Within that time one has to end
-/// by itself, or places are free too seldom.
+/// How many places hosts have at most whose documents were put off.
+const MOST_PUT_OFF: usize = 48;
+
+/// How many documents are kept or asked for at most. So the replies to messages find room beside them, and a document is here
+/// still when its host's message goes on.
+const MOST_DOCUMENTS: usize = 256;
+
+/// How many of them are free for hosts that neither fail nor were put off.
+const DOCUMENTS_FREE: usize = 64;
+
+/// An exchange is cut for another's only where it has been under way for so long, and none has ended by itself for so long, in
+/// milliseconds.
 pub const LEAST_TIME: u64 = 1_000;
 
 /// An exchange that is under way with a host.
 pub struct Seat {
     pub host: String,
     pub flight: Flight,
+    /// How the host stood when it began.
+    pub standing: Standing,
+    /// Whether it is asked for a document.
+    pub asks_document: bool,
     /// Whether the host ever replied.
     pub has_answered: bool,
 }
@@ -27,6 +42,8 @@ impl Drop for Seat {
         let Seat {
             host: _,
             flight: _,
+            standing: _,
+            asks_document: _,
             has_answered: _,
         } = self;
     }
@@ -38,6 +55,8 @@ impl Seat {
         let Seat {
             host,
             flight,
+            standing: _,
+            asks_document: _,
             has_answered: _,
         } = self;
         (host, flight)
@@ -77,10 +96,44 @@ impl Seats {
         Ok(Seats { seats, taken: 0 })
     }
 
-    /// A place for an exchange, and whether some stay free for those of others, and another's may be cut for it.
-    pub fn room(&self, leaves_some: bool, may_cut: bool, now: u64) -> Room {
-        let kept = if leaves_some { KEPT_FREE } else { 0 };
-        if self.taken.saturating_add(kept) < MOST_SEATS {
+    /// How many places hosts have that stood so.
+    fn taken_by(&self, standing: Standing) -> usize {
+        let mut taken = 0usize;
+        for seat in self.seats.iter() {
+            if let Some(seat) = seat {
+                if seat.standing == standing {
+                    taken = taken.saturating_add(1);
+                }
+            }
+        }
+        taken
+    }
+
+    /// How many hosts are asked for a document.
+    fn documents(&self) -> usize {
+        let mut asked = 0usize;
+        for seat in self.seats.iter() {
+            if let Some(seat) = seat {
+                if seat.asks_document {
+                    asked = asked.saturating_add(1);
+                }
+            }
+        }
+        asked
+    }
+
+    /// Whether a host that stands so may have a place more, where one is free.
+    fn may_take(&self, standing: Standing) -> bool {
+        match standing {
+            Standing::Failing => self.taken_by(standing) < MOST_FAILING,
+            Standing::PutOff => self.taken_by(standing) < MOST_PUT_OFF,
+            Standing::Free => true,
+        }
+    }
+
+    /// A place for an exchange with a host that stands so. With `may_cut` another's may be cut for it, where no place is free.
+    pub fn room(&self, standing: Standing, may_cut: bool, now: u64) -> Room {
+        if self.taken < MOST_SEATS && self.may_take(standing) {
             if let Some(place) = self.seats.iter().position(|seat| seat.is_none()) {
                 return Room::Free(place);
             }
@@ -111,6 +164,16 @@ impl Seats {
             }
         }
         longest.map(|(place, _)| place)
+    }
+
+    /// Whether a host that stands so may be asked for a document, where so many are kept.
+    pub fn may_ask(&self, standing: Standing, kept: usize) -> bool {
+        let free = match standing {
+            Standing::Free => 0,
+            _ => DOCUMENTS_FREE,
+        };
+        let all = self.documents().saturating_add(kept);
+        all.saturating_add(free) < MOST_DOCUMENTS
     }
 
     /// Puts an exchange at a place that is free.

@@ -3,10 +3,10 @@
 ghost use Rattle.std.specs.Prelude.{◌≡◌, IfOk};
 ghost use Rattle.ocm_net_exchanges.specs.Keeps.{reply_for};
 
-use crate::hosts::{HostNote, Hosts, Noted};
-use crate::keeps::{Keeps, asks_document};
+use crate::hosts::{HostNote, Hosts, Noted, Standing};
+use crate::keeps::{DOCUMENT_KEPT, Keeps, asks_document};
 use crate::names::{Names, most_lookups};
-use crate::orders::Order;
+use crate::orders::Orders;
 use crate::seats::{LEAST_TIME, Room, Seat, Seats};
 use crate::turns::Turns;
 use ocm_base::{Bytes, and};
@@ -51,10 +51,10 @@ pub struct Table {
     awaited: Option<usize>,
     /// When an exchange ended last that was not cut for another's, in milliseconds.
     ended: u64,
-    /// Whose turn it is to get a place, of hosts that failed.
-    placing: Order,
-    /// Whose turn it is to be looked up, of hosts that failed.
-    naming: Order,
+    /// Whose turn it is to get a place.
+    placing: Orders,
+    /// Whose turn it is to be looked up.
+    naming: Orders,
     /// When rounds are due.
     pub turns: Turns,
 }
@@ -102,6 +102,8 @@ fn seated(
     found: (Option<Lookup>, Addresses),
 ) -> Result<Box<Seat>, ExchangeFault> {
     let (lookup, addresses) = found;
+    let asks_document = asks_document(request.as_slice());
+    let standing = noted.standing(asks_document);
     let host = String::from_str(alloc, host)?;
     let limits = limits_for(noted, request);
     let request = request.copy()?;
@@ -109,6 +111,8 @@ fn seated(
     let seat = Seat {
         host,
         flight,
+        standing,
+        asks_document,
         has_answered: noted.has_answered,
     };
     match Box::new(alloc, seat) {
@@ -133,13 +137,13 @@ impl Table {
             replier: None,
             awaited: None,
             ended: 0,
-            placing: Order::new(),
-            naming: Order::new(),
+            placing: Orders::new(),
+            naming: Orders::new(),
             turns: Turns::new(),
         })
     }
 
-    /// The reply of a host to these bytes, where one is kept and the host is not left alone.
+    /// The reply of a host to these bytes, where one is kept.
     pub fn take(
         &mut self,
         alloc: Global,
@@ -170,23 +174,22 @@ impl Table {
         request: &Bytes,
         now: u64,
     ) -> Result<Option<usize>, ExchangeFault> {
-        let noted = self.hosts.waited_for(host, self.turns.round());
+        let noted = self.hosts.waited_for(host, self.turns.round(), now);
+        if !self.is_turn_of_message(host, now) {
+            return Ok(None);
+        }
         if noted.is_tried {
+            self.put_off_namer(host, now, now);
             return Ok(None);
         }
-        if now < noted.until {
-            self.turns.call_at(noted.until);
+        let asks_document = asks_document(request.as_slice());
+        let free = noted.free_from(asks_document);
+        if now < free {
+            self.turns.call_at(free);
+            self.put_off_namer(host, noted.until, now);
             return Ok(None);
         }
-        if !self.hosts.has_room_for(alloc, host, now) {
-            self.turns.call_at(now.saturating_add(NO_ROOM));
-            return Ok(None);
-        }
-        let Some(place) = self.place_for(alloc, set, noted, now) else {
-            self.turns.call_at(now.saturating_add(NO_ROOM));
-            return Ok(None);
-        };
-        let Some(found) = self.addresses_of(rt, alloc, host, noted, now) else {
+        let Some((place, found)) = self.room_for(rt, alloc, set, host, request, noted, now) else {
             self.turns.call_at(now.saturating_add(NO_ROOM));
             return Ok(None);
         };
@@ -196,7 +199,7 @@ impl Table {
                 self.seats.put(place, seat);
                 self.awaited = Some(place);
                 self.launch(alloc, set, place, now);
-                self.awaited = (!noted.is_failing()).then_some(place);
+                self.awaited = noted.is_well(asks_document).then_some(place);
                 Ok(self.awaited)
             }
             Err(fault) => {
@@ -206,15 +209,63 @@ impl Table {
         }
     }
 
-    /// A place for an exchange, for which another's may be cut. None where there is none, or where it is the turn of others.
-    fn place_for(&mut self, alloc: Global, set: &Set, noted: Noted, now: u64) -> Option<usize> {
-        let message = self.turns.messages();
-        let takes_turns = noted.takes_turns();
-        if takes_turns && !self.placing.is_turn(self.turns.round(), message) {
+    /// A place for an exchange with a host, and the host's addresses or the look-up for them. None where there is no room for
+    /// one of them, or for what is known of the host, or where it is the turn of others.
+    fn room_for<R: Threads + Net>(
+        &mut self,
+        rt: &R,
+        alloc: Global,
+        set: &Set,
+        host: &str,
+        request: &Bytes,
+        noted: Noted,
+        now: u64,
+    ) -> Option<(usize, (Option<Lookup>, Addresses))> {
+        let asks_document = asks_document(request.as_slice());
+        let standing = noted.standing(asks_document);
+        if !self.hosts.has_room_for(alloc, host, now) {
             return None;
         }
-        let may_cut = !noted.is_failing() && now.saturating_sub(self.ended) >= LEAST_TIME;
-        match self.seats.room(takes_turns, may_cut, now) {
+        let most = self.lookups_for(host, standing, now)?;
+        if asks_document && !self.may_ask(standing, now) {
+            return None;
+        }
+        let place = self.place_for(alloc, set, standing, noted.is_well(asks_document), now)?;
+        let found = self.names.find(rt, alloc, host, most, now)?;
+        Some((place, found))
+    }
+
+    /// Whether the message may be tried of whose delivery this exchange is: its host is the one that gave the last reply, a
+    /// document, or this one where none came yet.
+    fn is_turn_of_message(&mut self, host: &str, now: u64) -> bool {
+        let to = match &self.replier {
+            Some(replier) => replier.as_str(),
+            None => host,
+        };
+        let is_turn = self.hosts.is_turn(to, self.turns.round());
+        if !is_turn {
+            let soon = now.saturating_add(NO_ROOM);
+            self.turns
+                .call_at(self.hosts.at(to).free_from(true).max(soon));
+        }
+        is_turn
+    }
+
+    /// A place for an exchange, for which another's may be cut. None where there is none, or where it is the turn of others.
+    fn place_for(
+        &mut self,
+        alloc: Global,
+        set: &Set,
+        standing: Standing,
+        is_well: bool,
+        now: u64,
+    ) -> Option<usize> {
+        let (round, message) = (self.turns.round(), self.turns.messages());
+        if !self.placing.is_turn(standing, round, message) {
+            return None;
+        }
+        let may_cut = is_well && now.saturating_sub(self.ended) >= LEAST_TIME;
+        match self.seats.room(standing, may_cut, now) {
             Room::Free(place) => Some(place),
             Room::Cut(place) => {
                 let ended = self.ended;
@@ -223,33 +274,55 @@ impl Table {
                 Some(place)
             }
             Room::Full => {
-                if takes_turns {
-                    self.placing.refuse(message);
-                }
+                self.placing.refuse(standing, message);
                 None
             }
         }
     }
 
-    /// The addresses of a host, or the look-up for them. None where there is no room for that, or where it is the turn of
-    /// others.
-    fn addresses_of<R: Threads + Net>(
-        &mut self,
-        rt: &R,
-        alloc: Global,
-        host: &str,
-        noted: Noted,
-        now: u64,
-    ) -> Option<(Option<Lookup>, Addresses)> {
-        let message = self.turns.messages();
-        let is_turn = self.naming.is_turn(self.turns.round(), message);
-        let takes_turns = noted.takes_turns();
-        let most = most_lookups(takes_turns, is_turn);
-        let found = self.names.find(rt, alloc, host, most, now);
-        if found.is_none() && takes_turns && is_turn {
-            self.naming.refuse(message);
+    /// Where the last reply of this delivery is a document that names another host as its end point, which has to be waited
+    /// for: it is not asked for again before that host may be asked. Where there is no room for others of its kind, it makes
+    /// room if it would not be kept until then.
+    fn put_off_namer(&mut self, named: &str, until: u64, now: u64) {
+        let Some(namer) = &self.replier else {
+            return;
+        };
+        if namer.as_str() == named {
+            return;
         }
-        found
+        self.hosts.put_off_document(namer.as_str(), named, until);
+        if until.saturating_sub(now) >= DOCUMENT_KEPT {
+            let kept = self.keeps.documents(now);
+            if !self.seats.may_ask(Standing::PutOff, kept) {
+                self.keeps.forget_documents(namer.as_str());
+            }
+        }
+    }
+
+    /// Whether a host that stands so may be asked for its document: whether there is room for one more. So no document drives
+    /// out one that was of no use yet.
+    fn may_ask(&mut self, standing: Standing, now: u64) -> bool {
+        let kept = self.keeps.documents(now);
+        let (round, message) = (self.turns.round(), self.turns.messages());
+        let is_turn = self.placing.is_turn(standing, round, message);
+        let has_room = self.seats.may_ask(standing, kept);
+        if is_turn && !has_room {
+            self.placing.refuse(standing, message);
+        }
+        has_room
+    }
+
+    /// How many look-ups may go on where one begins for a host. None where there is no room for it, or where it is the turn
+    /// of others.
+    fn lookups_for(&mut self, host: &str, standing: Standing, now: u64) -> Option<u64> {
+        let (round, message) = (self.turns.round(), self.turns.messages());
+        let is_turn = self.naming.is_turn(standing, round, message);
+        let most = if is_turn { most_lookups(standing) } else { 0 };
+        let is_found = self.names.may_find(host, most, now);
+        if is_turn && !is_found {
+            self.naming.refuse(standing, message);
+        }
+        is_found.then_some(most)
     }
 
     /// Begins the exchange at a place.
@@ -308,7 +381,9 @@ impl Table {
             Ok(reply) => {
                 self.hosts.reply(alloc, host.as_str());
                 self.names.keep(alloc, host.as_str(), addresses, now);
-                let _ = self.keeps.put(host, request, reply, now);
+                if let Ok(Some((host, until))) = self.keeps.put(host, request, reply, now) {
+                    self.hosts.lose_document(host.as_str(), until);
+                }
             }
             Err(ExchangeFault::NoMemory) => {
                 let soon = now.saturating_add(NO_ROOM);
@@ -319,17 +394,18 @@ impl Table {
             Err(ExchangeFault::Failed) => {
                 self.hosts.end(alloc, host.as_str());
                 self.names.forget(host.as_str());
-                self.fail(alloc, host.as_str(), now);
+                self.fail(alloc, host.as_str(), false, now);
             }
         }
     }
 
-    /// Leaves a host alone for a while.
-    fn fail(&mut self, alloc: Global, host: &str, now: u64) {
-        self.keeps.forget(host);
-        let note = self.hosts.fail(alloc, host, now);
+    /// Leaves a host alone for a while that failed, or only its document where its reply was of no use.
+    fn fail(&mut self, alloc: Global, host: &str, is_useless: bool, now: u64) {
+        self.keeps.forget_documents(host);
+        let note = self.hosts.fail(alloc, host, is_useless, now);
         self.note(note);
-        self.turns.call_at(self.hosts.at(host).until);
+        self.turns
+            .call_at(self.hosts.at(host).free_from(is_useless));
     }
 
     /// Puts a note behind those that are to be told, where there is room.
@@ -355,17 +431,24 @@ impl Table {
             self.turns.call();
             self.succeed(alloc, host);
             if let Some(replier) = &replier {
-                self.succeed(alloc, replier.as_str());
+                let note = self.hosts.reach(alloc, replier.as_str());
+                self.note(note);
             }
         } else if self.has_replied {
-            self.fail(alloc, host, now);
+            self.fail(alloc, host, true, now);
+            self.hosts.pass(host, self.turns.round(), true);
+        } else {
+            self.hosts.pass(host, self.turns.round(), false);
         }
         drop(replier);
         self.has_replied = false;
     }
 
-    /// Notes that a host was of use.
+    /// Notes that a message to a host was settled. Where replies are crowded, its document makes room for others.
     fn succeed(&mut self, alloc: Global, host: &str) {
+        if self.keeps.is_crowded() {
+            self.keeps.forget_documents(host);
+        }
         let note = self.hosts.succeed(alloc, host);
         self.note(note);
     }

@@ -27,6 +27,8 @@ pub struct Turns {
     patience: u64,
     /// How many rounds were begun.
     round: u64,
+    /// When it was looked last what came, in milliseconds.
+    driven: u64,
 }
 
 impl Turns {
@@ -39,6 +41,7 @@ impl Turns {
             messages: 0,
             patience: PATIENCE,
             round: 0,
+            driven: 0,
         }
     }
 
@@ -70,6 +73,16 @@ impl Turns {
     /// Notes that it waited for so long, in milliseconds.
     pub fn spend(&mut self, time: u64) {
         self.patience = self.patience.saturating_sub(time);
+    }
+
+    /// Notes that it is looked now what came.
+    pub fn drive(&mut self, now: u64) {
+        self.driven = now;
+    }
+
+    /// When it was looked last what came, in milliseconds.
+    pub fn driven(&self) -> u64 {
+        self.driven
     }
 
     /// Notes the end of a round. The more messages it tried, the longer the next is held back.

@@ -58,6 +58,11 @@ impl Lookups {
         Lookups { running }
     }
 
+    /// Whether fewer than so many go on, those that nobody waits for among them.
+    pub fn has_room(&self, most: u64) -> bool {
+        self.running.load(Ordering::SeqCst) < most
+    }
+
     /// Begins to look up a name. None where so many go on already, those that nobody waits for among them, or the system has
     /// no room for another.
     pub fn begin<R: Threads + Net>(
@@ -68,7 +73,7 @@ impl Lookups {
         port: u16,
         most: u64,
     ) -> Option<Lookup> {
-        if self.running.load(Ordering::SeqCst) >= most {
+        if !self.has_room(most) {
             return None;
         }
         let bell = Bell::new(rt).ok()?;

@@ -1,6 +1,6 @@
 //! How a store with a log answers an ask: as the store does, and the line of a read that was answered follows in its log.
 //! Workers ask what is due at least once a minute, and then lines are written, so that none waits for longer.
-ghost use Rattle.std.specs.Prelude.{◌≡◌, ◌≢◌, ◌∷◌, ℕ, List, Some, None, IsTrue, IfOk, IfErr};
+ghost use Rattle.std.specs.Prelude.{◌≡◌, ◌≢◌, ◌∷◌, ℕ, List, true, Some, None, IsTrue, IfOk, IfErr};
 ghost use Rattle.ocm_entry.specs.Proper.{is_proper};
 ghost use Rattle.ocm_entry.specs.declared.asks.Ask.{Ask};
 ghost use Rattle.ocm_entry.specs.declared.entries.Entry.{Entry};
@@ -142,7 +142,7 @@ impl<D: Disk, K: LogSink> Object for LoggedStore<D, K> {
 
 /// The moment of a store with a log is that of its disk. Its work is to write the record of a change.
 impl<D: Disk, K: LogSink> Dated for LoggedStore<D, K> {
-    ghost use Rattle.ocm_store.specs.Parting.{IsFor, mark_of};
+    ghost use Rattle.ocm_store.specs.Parting.{IsFor, mark_of, was_tried};
     ghost use Rattle.ocm_store.specs.Stores.{disk_of};
     ghost use Rattle.ocm_serve_store.specs.Following.{CameSince, mark_in, store_of};
 
@@ -159,6 +159,8 @@ impl<D: Disk, K: LogSink> Dated for LoggedStore<D, K> {
     ghost mark = { λ work. mark_of work };
 
     ghost is_for = { λ work ask. IsFor work ask };
+
+    ghost is_done = { λ work. was_tried work ≡ true };
 
     ghost begins = { λ logged k s. s.0.1 };
 

@@ -236,7 +236,7 @@ impl<D: Disk> Object for Followed<D> {
 
 /// The moment of a store is that of its disk. Its work is to write the record of a change.
 impl<D: Disk> Dated for Followed<D> {
-    ghost use Rattle.ocm_store.specs.Parting.{IsFor, mark_of};
+    ghost use Rattle.ocm_store.specs.Parting.{IsFor, mark_of, was_tried};
     ghost use Rattle.ocm_store.specs.Stores.{disk_of};
     ghost use Rattle.ocm_serve_store.specs.Following.{CameSince, mark_in, store_of};
 
@@ -253,6 +253,8 @@ impl<D: Disk> Dated for Followed<D> {
     ghost mark = { λ work. mark_of work };
 
     ghost is_for = { λ work ask. IsFor work ask };
+
+    ghost is_done = { λ work. was_tried work ≡ true };
 
     ghost begins = { λ followed k s. s.1 };
 

@@ -213,6 +213,8 @@ impl<T: Dated> TurnTable<T> {
         requires own { seat.old.table_id ≡ self.now.table.shared.table_id }
         requires value { HasInHand T.terms (StandsAt T.stands T.came) T.legal T.awaited seat.old.me seat.old.me.0.found seat.old.me.0.found_moments (Some (T.mark work)) }
         requires below { length seat.old.me.0.found < self.now.limit }
+        // The work was done before, in no turn.
+        requires is_done { T.is_done work }
         ensures own { (seat.new.table_id ≡ seat.old.table_id) × (seat.new.me.0 ≡ seat.old.me.0) }
         ensures ended { (ask : asks.Ask) → T.is_for work ask
             → HasInHand T.terms (StandsAt T.stands T.came) T.legal T.awaited seat.new.me (entry ask result.0 ∷ seat.new.me.0.found) (T.moment result.1.value ∷ seat.new.me.0.found_moments) None }

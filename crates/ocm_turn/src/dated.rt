@@ -46,6 +46,9 @@ pub trait Dated: Object {
     // Whether a piece of work is that of a call with this ask.
     ghost is_for: { Self.Work → asks.Ask → Type 0 };
 
+    // Whether a piece of work is done, well or badly.
+    ghost is_done: { Self.Work → Type 0 };
+
     /// Whether a call with this ask may need work, or may have to wait for another's. It is a guess: a call that is taken to need
     /// none is answered by `step`, and any other is begun.
     fn may_wait(ask: &Ask) -> bool;
@@ -80,7 +83,8 @@ pub trait Dated: Object {
     /// Does the work of a call, in no turn.
     fn carry_out(work: &mut Self::Work)
         ensures mark { mark work.new ≡ mark work.old }
-        ensures is_for { (ask : asks.Ask) → is_for work.old ask → is_for work.new ask };
+        ensures is_for { (ask : asks.Ask) → is_for work.old ask → is_for work.new ask }
+        ensures is_done { is_done work.new };
 
     /// Ends a call whose work is done.
     fn end(&mut self, work: Self::Work) -> Reply
