@@ -26,6 +26,9 @@ const TOLD_FROM: u64 = 60_000;
 /// an end otherwise.
 const STALE: u64 = 3_600_000;
 
+/// How many failures of one kind follow one another, at least, where a failure of the other kind counts as the first.
+const ENOUGH_ALIKE: u32 = 5;
+
 /// How a host stands where there is not room for all of them.
 #[derive(Clone, Copy, PartialEq, Eq)]
 pub enum Standing {
@@ -51,6 +54,10 @@ pub struct Noted {
     since: u64,
     /// How many these are.
     tries: u32,
+    /// How many of the last of them were of one kind: failed, or with a reply of no use.
+    alike: u32,
+    /// From when on its pauses are short for a while, in milliseconds.
+    short_from: u64,
     /// When a message waited for it last, in milliseconds.
     asked: u64,
     /// The last round in which a message waited for it.
@@ -63,9 +70,9 @@ pub struct Noted {
     namers: u32,
     /// How many messages waited for it before that failure.
     most_before: u32,
-    /// The last round that had a message to this host.
+    /// The last round that had a message to it.
     message_round: u64,
-    /// How many messages to it that round had so far that stay due.
+    /// How many of these messages that round had so far that stay due.
     passed: u32,
     /// How many of them go ahead of the first that may be tried.
     ahead: u32,
@@ -75,6 +82,8 @@ pub struct Noted {
     pub has_answered: bool,
     /// Whether it replied last, and did not fail since, nor was its document put off: then a delivery to it goes on.
     has_replied: bool,
+    /// Whether a message to it was posted since, to it or to its end point.
+    pub is_posted: bool,
     /// Whether it failed by a reply of no use last, so that it can be reached.
     is_useless: bool,
     /// Whether it was told that it fails.
@@ -90,6 +99,8 @@ impl Noted {
             pause: 0,
             since: 0,
             tries: 0,
+            alike: 0,
+            short_from: 0,
             asked: 0,
             round: 0,
             waiting: 0,
@@ -102,6 +113,7 @@ impl Noted {
             is_tried: false,
             has_answered: false,
             has_replied: false,
+            is_posted: false,
             is_useless: false,
             is_told: false,
         }
@@ -146,12 +158,13 @@ impl Noted {
         let might = self.documents_from < until;
         self.documents_from = self.documents_from.max(until);
         self.has_replied = false;
+        self.is_posted = false;
         might
     }
 
     /// Counts a message that waits for it in a round.
     fn count(&mut self, round: u64, now: u64) {
-        if now.saturating_sub(self.asked) >= STALE {
+        if self.asked > 0 && now.saturating_sub(self.asked) >= STALE {
             self.forget_failures();
         }
         self.asked = now;
@@ -163,8 +176,8 @@ impl Noted {
         self.most = self.most.max(self.waiting);
     }
 
-    /// Whether the next message to it in a round may be tried. Where the reply to one was of no use, those behind it go first,
-    /// and once there was none the first may be tried again. So no message holds up the others for ever.
+    /// Whether the next message to it in a round may be tried. Where one failed, or its reply was of no use, those behind it go
+    /// first, and once there was none the first may be tried again. So no message holds up the others for ever.
     fn is_turn(&mut self, round: u64) -> bool {
         if self.message_round != round {
             self.message_round = round;
@@ -205,17 +218,32 @@ impl Noted {
         if self.pause == 0 {
             return FIRST_PAUSE;
         }
-        let is_short = now.saturating_sub(self.since) < SHORT_TIME;
+        let is_short = now.saturating_sub(self.short_from) < SHORT_TIME;
         let longest = if is_short { SHORT_PAUSE } else { LONGEST_PAUSE };
         self.pause.saturating_mul(2).min(longest)
     }
 
-    /// Notes an exchange that failed, or a reply of no use. Answers whether that is to be told now.
-    fn fail(&mut self, is_useless: bool, now: u64) -> bool {
-        if self.tries == 0 || self.is_useless != is_useless {
+    /// Notes of what kind a failure is. The first begins with short pauses, and so does one behind enough of the other kind.
+    fn note_kind(&mut self, is_useless: bool, now: u64) {
+        let is_first = self.tries == 0;
+        let is_other = self.is_useless != is_useless;
+        if is_first {
             self.since = now;
+        }
+        if is_first || (is_other && self.alike >= ENOUGH_ALIKE) {
+            self.short_from = now;
             self.pause = 0;
         }
+        if is_first || is_other {
+            self.alike = 0;
+        }
+        self.alike = self.alike.saturating_add(1);
+        self.is_useless = is_useless;
+    }
+
+    /// Notes an exchange that failed, or a reply of no use. Answers whether that is to be told now.
+    fn fail(&mut self, is_useless: bool, now: u64) -> bool {
+        self.note_kind(is_useless, now);
         self.pause = self.next_pause(now);
         let mut end = now.saturating_add(self.pause);
         let told = self.since.saturating_add(TOLD_FROM);
@@ -228,12 +256,12 @@ impl Noted {
         } else {
             self.until = end;
         }
-        self.is_useless = is_useless;
         self.tries = self.tries.saturating_add(1);
         self.most_before = self.messages_since();
         self.most = 0;
         self.namers = 0;
         self.has_replied = false;
+        self.is_posted = false;
         let is_news = !self.is_told && now.saturating_sub(self.since) >= TOLD_FROM;
         self.is_told = self.is_told || is_news;
         is_news
@@ -244,6 +272,7 @@ impl Noted {
         let is_news = self.is_told;
         self.until = 0;
         self.documents_from = 0;
+        self.is_posted = false;
         self.forget_failures();
         is_news
     }
@@ -365,11 +394,17 @@ impl Hosts {
         self.put(alloc, host, noted);
     }
 
-    /// Whether the next message to a host in a round may be tried.
-    pub fn is_turn(&mut self, host: &str, round: u64) -> bool {
+    /// The place of the next message to a host among those of a round, where it may be tried.
+    pub fn turn(&mut self, host: &str, round: u64) -> Option<u32> {
         match self.noted.get_mut(host) {
-            Some(noted) => noted.is_turn(round),
-            None => true,
+            Some(noted) => {
+                if noted.is_turn(round) {
+                    Some(noted.passed)
+                } else {
+                    None
+                }
+            }
+            None => Some(0),
         }
     }
 
@@ -378,6 +413,22 @@ impl Hosts {
     pub fn pass(&mut self, host: &str, round: u64, is_useless: bool) {
         if let Some(noted) = self.noted.get_mut(host) {
             noted.pass(round, is_useless);
+        }
+    }
+
+    /// Notes that the message to a host at this place among those of its round failed: those behind it go first.
+    pub fn pass_over(&mut self, host: &str, place: u32) {
+        if let Some(noted) = self.noted.get_mut(host) {
+            noted.ahead = place.saturating_add(1);
+        }
+    }
+
+    /// Notes that a message to a host is posted now, to it or to its end point: a delivery to it goes on, which needs its
+    /// document still.
+    pub fn post(&mut self, host: &str) {
+        if let Some(noted) = self.noted.get_mut(host) {
+            noted.has_replied = true;
+            noted.is_posted = true;
         }
     }
 

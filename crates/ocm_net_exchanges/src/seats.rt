@@ -9,10 +9,13 @@ use std::alloc::{AllocError, Global};
 const MOST_SEATS: usize = 128;
 
 /// How many places hosts have at most that fail.
-const MOST_FAILING: usize = 64;
+const MOST_FAILING: usize = 48;
 
 /// How many places hosts have at most whose documents were put off.
-const MOST_PUT_OFF: usize = 48;
+const MOST_PUT_OFF: usize = 32;
+
+/// How many places are free for hosts that neither fail nor were put off.
+const PLACES_FREE: usize = 32;
 
 /// How many documents are kept or asked for at most. So the replies to messages find room beside them, and a document is here
 /// still when its host's message goes on.
@@ -28,6 +31,10 @@ pub const LEAST_TIME: u64 = 1_000;
 /// An exchange that is under way with a host.
 pub struct Seat {
     pub host: String,
+    /// The host of the message that it is for.
+    pub to: String,
+    /// The place of that message among those to that host in its round.
+    pub turn: u32,
     pub flight: Flight,
     /// How the host stood when it began.
     pub standing: Standing,
@@ -41,6 +48,8 @@ impl Drop for Seat {
     fn drop(self) {
         let Seat {
             host: _,
+            to: _,
+            turn: _,
             flight: _,
             standing: _,
             asks_document: _,
@@ -50,16 +59,18 @@ impl Drop for Seat {
 }
 
 impl Seat {
-    /// The host and the exchange.
-    pub fn into_parts(self) -> (String, Flight) {
+    /// The host, that of the message, the message's place, and the exchange.
+    pub fn into_parts(self) -> (String, String, u32, Flight) {
         let Seat {
             host,
+            to,
+            turn,
             flight,
             standing: _,
             asks_document: _,
             has_answered: _,
         } = self;
-        (host, flight)
+        (host, to, turn, flight)
     }
 }
 
@@ -122,8 +133,12 @@ impl Seats {
         asked
     }
 
-    /// Whether a host that stands so may have a place more, where one is free.
-    fn may_take(&self, standing: Standing) -> bool {
+    /// Whether a host that stands so, and is well or isn't, may have a place more.
+    fn may_take(&self, standing: Standing, is_well: bool) -> bool {
+        let free = if is_well { 0 } else { PLACES_FREE };
+        if self.taken.saturating_add(free) >= MOST_SEATS {
+            return false;
+        }
         match standing {
             Standing::Failing => self.taken_by(standing) < MOST_FAILING,
             Standing::PutOff => self.taken_by(standing) < MOST_PUT_OFF,
@@ -131,9 +146,22 @@ impl Seats {
         }
     }
 
-    /// A place for an exchange with a host that stands so. With `may_cut` another's may be cut for it, where no place is free.
-    pub fn room(&self, standing: Standing, may_cut: bool, now: u64) -> Room {
-        if self.taken < MOST_SEATS && self.may_take(standing) {
+    /// Whether an exchange with a host is under way for a message to that other one.
+    pub fn is_under_way(&self, host: &str, to: &str) -> bool {
+        for seat in self.seats.iter() {
+            if let Some(seat) = seat {
+                if seat.host.as_str() == host && seat.to.as_str() == to {
+                    return true;
+                }
+            }
+        }
+        false
+    }
+
+    /// A place for an exchange with a host that stands so, and is well or isn't. With `may_cut` another's may be cut for it,
+    /// where no place is free.
+    pub fn room(&self, standing: Standing, is_well: bool, may_cut: bool, now: u64) -> Room {
+        if self.may_take(standing, is_well) {
             if let Some(place) = self.seats.iter().position(|seat| seat.is_none()) {
                 return Room::Free(place);
             }
@@ -166,14 +194,15 @@ impl Seats {
         longest.map(|(place, _)| place)
     }
 
-    /// Whether a host that stands so may be asked for a document, where so many are kept.
-    pub fn may_ask(&self, standing: Standing, kept: usize) -> bool {
-        let free = match standing {
-            Standing::Free => 0,
-            _ => DOCUMENTS_FREE,
+    /// Whether a host that stands so may be asked for a document, where so many are kept. One to which a message was posted has
+    /// room beyond that of the others, since the reply to it waits for the document.
+    pub fn may_ask(&self, standing: Standing, is_posted: bool, kept: usize) -> bool {
+        let most = match standing {
+            _ if is_posted => MOST_DOCUMENTS + MOST_SEATS,
+            Standing::Free => MOST_DOCUMENTS,
+            _ => MOST_DOCUMENTS - DOCUMENTS_FREE,
         };
-        let all = self.documents().saturating_add(kept);
-        all.saturating_add(free) < MOST_DOCUMENTS
+        self.documents().saturating_add(kept) < most
     }
 
     /// Puts an exchange at a place that is free.

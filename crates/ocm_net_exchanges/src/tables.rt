@@ -92,24 +92,37 @@ fn limits_for(noted: Noted, request: &Bytes) -> Limits {
     }
 }
 
+/// The host of the message of whose delivery an exchange with this host is: the one that gave the last reply, a document, or
+/// this one where none came yet.
+fn recipient<'a>(replier: &'a Option<String>, host: &'a str) -> &'a str {
+    match replier {
+        Some(replier) => replier.as_str(),
+        None => host,
+    }
+}
+
 /// An exchange at its place.
 fn seated(
     alloc: Global,
     host: &str,
+    for_message: (&str, u32),
     request: &Bytes,
     noted: Noted,
     now: u64,
     found: (Option<Lookup>, Addresses),
 ) -> Result<Box<Seat>, ExchangeFault> {
     let (lookup, addresses) = found;
+    let (to, turn) = for_message;
     let asks_document = asks_document(request.as_slice());
     let standing = noted.standing(asks_document);
-    let host = String::from_str(alloc, host)?;
+    let (host, to) = and(String::from_str(alloc, host)?, String::from_str(alloc, to))?;
     let limits = limits_for(noted, request);
     let request = request.copy()?;
     let flight = Flight::new(request, limits, now, lookup, addresses);
     let seat = Seat {
         host,
+        to,
+        turn,
         flight,
         standing,
         asks_document,
@@ -175,9 +188,9 @@ impl Table {
         now: u64,
     ) -> Result<Option<usize>, ExchangeFault> {
         let noted = self.hosts.waited_for(host, self.turns.round(), now);
-        if !self.is_turn_of_message(host, now) {
+        let Some(turn) = self.turn_of_message(host, now) else {
             return Ok(None);
-        }
+        };
         if noted.is_tried {
             self.put_off_namer(host, now, now);
             return Ok(None);
@@ -193,9 +206,13 @@ impl Table {
             self.turns.call_at(now.saturating_add(NO_ROOM));
             return Ok(None);
         };
-        match seated(alloc, host, request, noted, now, found) {
+        let to = recipient(&self.replier, host);
+        match seated(alloc, host, (to, turn), request, noted, now, found) {
             Ok(seat) => {
                 self.hosts.begin(alloc, host);
+                if !asks_document {
+                    self.hosts.post(to);
+                }
                 self.seats.put(place, seat);
                 self.awaited = Some(place);
                 self.launch(alloc, set, place, now);
@@ -227,7 +244,7 @@ impl Table {
             return None;
         }
         let most = self.lookups_for(host, standing, now)?;
-        if asks_document && !self.may_ask(standing, now) {
+        if asks_document && !self.may_ask(noted, now) {
             return None;
         }
         let place = self.place_for(alloc, set, standing, noted.is_well(asks_document), now)?;
@@ -235,20 +252,17 @@ impl Table {
         Some((place, found))
     }
 
-    /// Whether the message may be tried of whose delivery this exchange is: its host is the one that gave the last reply, a
-    /// document, or this one where none came yet.
-    fn is_turn_of_message(&mut self, host: &str, now: u64) -> bool {
-        let to = match &self.replier {
-            Some(replier) => replier.as_str(),
-            None => host,
-        };
-        let is_turn = self.hosts.is_turn(to, self.turns.round());
-        if !is_turn {
+    /// The place of the message of whose delivery an exchange with this host is, among those to its host in this round, where it
+    /// may be tried.
+    fn turn_of_message(&mut self, host: &str, now: u64) -> Option<u32> {
+        let to = recipient(&self.replier, host);
+        let turn = self.hosts.turn(to, self.turns.round());
+        if turn.is_none() {
             let soon = now.saturating_add(NO_ROOM);
             self.turns
                 .call_at(self.hosts.at(to).free_from(true).max(soon));
         }
-        is_turn
+        turn
     }
 
     /// A place for an exchange, for which another's may be cut. None where there is none, or where it is the turn of others.
@@ -265,7 +279,7 @@ impl Table {
             return None;
         }
         let may_cut = is_well && now.saturating_sub(self.ended) >= LEAST_TIME;
-        match self.seats.room(standing, may_cut, now) {
+        match self.seats.room(standing, is_well, may_cut, now) {
             Room::Free(place) => Some(place),
             Room::Cut(place) => {
                 let ended = self.ended;
@@ -281,31 +295,32 @@ impl Table {
     }
 
     /// Where the last reply of this delivery is a document that names another host as its end point, which has to be waited
-    /// for: it is not asked for again before that host may be asked. Where there is no room for others of its kind, it makes
-    /// room if it would not be kept until then.
+    /// for: it is not asked for again before that host may be asked, unless an exchange for it is under way there. Where there
+    /// is no room for others of its kind, it makes room if it would not be kept until then.
     fn put_off_namer(&mut self, named: &str, until: u64, now: u64) {
         let Some(namer) = &self.replier else {
             return;
         };
-        if namer.as_str() == named {
+        if namer.as_str() == named || self.seats.is_under_way(named, namer.as_str()) {
             return;
         }
         self.hosts.put_off_document(namer.as_str(), named, until);
         if until.saturating_sub(now) >= DOCUMENT_KEPT {
             let kept = self.keeps.documents(now);
-            if !self.seats.may_ask(Standing::PutOff, kept) {
+            if !self.seats.may_ask(Standing::PutOff, false, kept) {
                 self.keeps.forget_documents(namer.as_str());
             }
         }
     }
 
-    /// Whether a host that stands so may be asked for its document: whether there is room for one more. So no document drives
+    /// Whether a host may be asked for its document: whether there is room for one more. So no document drives
     /// out one that was of no use yet.
-    fn may_ask(&mut self, standing: Standing, now: u64) -> bool {
+    fn may_ask(&mut self, noted: Noted, now: u64) -> bool {
+        let standing = noted.standing(true);
         let kept = self.keeps.documents(now);
         let (round, message) = (self.turns.round(), self.turns.messages());
         let is_turn = self.placing.is_turn(standing, round, message);
-        let has_room = self.seats.may_ask(standing, kept);
+        let has_room = self.seats.may_ask(standing, noted.is_posted, kept);
         if is_turn && !has_room {
             self.placing.refuse(standing, message);
         }
@@ -367,7 +382,7 @@ impl Table {
         let Some((seat, lookup)) = self.seats.take(place, set) else {
             return;
         };
-        let (host, flight) = seat.into_parts();
+        let (host, to, turn, flight) = seat.into_parts();
         if let Some(lookup) = lookup {
             self.names.put_by(alloc, host.as_str(), lookup);
         }
@@ -395,6 +410,7 @@ impl Table {
                 self.hosts.end(alloc, host.as_str());
                 self.names.forget(host.as_str());
                 self.fail(alloc, host.as_str(), false, now);
+                self.hosts.pass_over(to.as_str(), turn);
             }
         }
     }
