@@ -1,5 +1,5 @@
 -- Replies that wait to be asked for, the oldest first.
-use Rattle.std.specs.Prelude.{ℕ, ◌+◌, ◌-◌, ◌^◌, min, nat_eq, nat_le, nat_lt, List, [], ◌∷◌, ◌++◌, length, filter, remove, position, slice_get, Bool, not, ◌&&◌, if◌then◌else◌, bytes_eq, codes, String, Option, Some, None, option_map, option_and_then}
+use Rattle.std.specs.Prelude.{ℕ, ◌+◌, ◌-◌, ◌^◌, min, nat_eq, nat_le, nat_lt, List, length, remove, position, slice_get, Bool, not, ◌&&◌, if◌then◌else◌, bytes_eq, codes, String, Option, Some, None, option_map, option_and_then}
 use Rattle.std.specs.List.{starts_with}
 use Rattle.std.specs.String.{string_bytes}
 use Rattle.std.specs.declared.alloc.Global.{Global}
@@ -11,7 +11,7 @@ asks_document request = starts_with nat_eq request (codes "GET ")
 
 -- until when a reply is kept that comes at this moment, in milliseconds
 abbrev pub kept_until : ℕ → List ℕ → ℕ
-kept_until now request = min (now + (if asks_document request then 10000 else 90000)) (2 ^ 64 - 1)
+kept_until now request = min (now + (if asks_document request then 30000 else 90000)) (2 ^ 64 - 1)
 
 -- whether a reply is kept still at this moment
 abbrev pub is_kept : ℕ → Kept → Bool

@@ -106,7 +106,11 @@ impl<'a, R: Wait + time::Clock> Exchanges<'a, R> {
     fn kept(&self, host: &str, request: &Bytes) -> Result<Option<Bytes>, ExchangeFault> {
         let now = millis(self.rt);
         let mut guard = self.table.lock(self.rt);
-        guard.take(self.alloc, host, request.as_slice(), now)
+        if guard.may_have(host, request.as_slice(), now) {
+            guard.take(self.alloc, host, request.as_slice(), now)
+        } else {
+            Ok(None)
+        }
     }
 
     /// The place at which an exchange that begins is waited for.

@@ -16,8 +16,8 @@ const CROWDED: usize = 64;
 /// How the request for a document begins.
 const DOCUMENT: &[u8] = b"GET ";
 
-/// How long a document is kept, in milliseconds.
-pub const DOCUMENT_KEPT: u64 = 10_000;
+/// How long a document is kept, in milliseconds: for longer than an exchange takes, since a delivery may need two of them.
+pub const DOCUMENT_KEPT: u64 = 30_000;
 
 /// How long the reply to a message is kept that nobody asks for, in milliseconds: for longer than a host is left alone, and an
 /// exchange with it takes.
@@ -100,7 +100,7 @@ pub fn asks_document(request: &[u8]) -> bool
 }
 
 /// Until when a reply is kept that comes now, in milliseconds.
-fn kept_until(now: u64, request: &[u8]) -> u64
+pub fn kept_until(now: u64, request: &[u8]) -> u64
     ensures { result ≡ kept_until now request.now }
 {
     let time = if asks_document(request) {
@@ -182,7 +182,7 @@ impl Keeps {
         Ok(Keeps { kept })
     }
 
-    /// Keeps a reply: that to a message until it is asked for, a document for 10 s. Where there is no room the oldest
+    /// Keeps a reply: that to a message until it is asked for, a document for 30 s. Where there is no room the oldest
     /// document goes; its host is given, and until when it would have been kept.
     pub fn put(
         &mut self,

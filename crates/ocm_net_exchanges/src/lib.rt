@@ -4,11 +4,16 @@
 //! returns.
 #![tactic(auto)]
 
+mod counts;
 mod deliveries;
+mod end_points;
 mod exchanges;
+mod failures;
 mod hosts;
 mod keeps;
+mod messages;
 mod names;
+mod noted;
 mod orders;
 mod seats;
 mod tables;

@@ -1,6 +1,6 @@
 //! The addresses of hosts, looked up beside what goes on.
 
-use crate::hosts::Standing;
+use crate::noted::Standing;
 use ocm_net_flights::{Addresses, Lookup, Lookups, is_literal, name_and_port};
 use std::alloc::Global;
 use std::net::Net;

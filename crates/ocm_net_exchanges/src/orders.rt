@@ -1,6 +1,6 @@
 //! Whose turn it is of hosts that failed, or whose documents were put off, where there is not room for all of them.
 
-use crate::hosts::Standing;
+use crate::noted::Standing;
 
 /// The order in which hosts of one standing get room. Where there is none for the host of a message, the next round begins with
 /// that message, and one that had room for all begins from the front again. So none of them waits for the others without end.

@@ -1,6 +1,6 @@
 //! The places of exchanges that are under way.
 
-use crate::hosts::Standing;
+use crate::noted::Standing;
 use ocm_net_flights::{Flight, Lookup};
 use ocm_net_waits::Set;
 use std::alloc::{AllocError, Global};
@@ -22,7 +22,15 @@ const PLACES_FREE: usize = 32;
 const MOST_DOCUMENTS: usize = 256;
 
 /// How many of them are free for hosts that neither fail nor were put off.
-const DOCUMENTS_FREE: usize = 64;
+const DOCUMENTS_FREE: usize = 16;
+
+/// How many are free for these and for hosts that fail, where documents are kept that are of no use yet: beyond that one of them
+/// goes.
+const DOCUMENTS_LEFT: usize = 64;
+
+/// How many are free for all of these where a host may be asked whose document was put off. It is more, so that one which goes is
+/// not asked for again at once.
+const DOCUMENTS_NOT_PUT_OFF: usize = 96;
 
 /// An exchange is cut for another's only where it has been under way for so long, and none has ended by itself for so long, in
 /// milliseconds.
@@ -59,18 +67,18 @@ impl Drop for Seat {
 }
 
 impl Seat {
-    /// The host, that of the message, the message's place, and the exchange.
-    pub fn into_parts(self) -> (String, String, u32, Flight) {
+    /// The host, that of the message and the message's place, whether a document is asked for, and the exchange.
+    pub fn into_parts(self) -> (String, (String, u32), bool, Flight) {
         let Seat {
             host,
             to,
             turn,
             flight,
             standing: _,
-            asks_document: _,
+            asks_document,
             has_answered: _,
         } = self;
-        (host, to, turn, flight)
+        (host, (to, turn), asks_document, flight)
     }
 }
 
@@ -146,16 +154,12 @@ impl Seats {
         }
     }
 
-    /// Whether an exchange with a host is under way for a message to that other one.
-    pub fn is_under_way(&self, host: &str, to: &str) -> bool {
-        for seat in self.seats.iter() {
-            if let Some(seat) = seat {
-                if seat.host.as_str() == host && seat.to.as_str() == to {
-                    return true;
-                }
-            }
+    /// Whether the exchange at a place is for a message to this host.
+    pub fn is_for(&self, place: usize, to: &str) -> bool {
+        match self.seats.get(place) {
+            Some(Some(seat)) => seat.to.as_str() == to,
+            _ => false,
         }
-        false
     }
 
     /// A place for an exchange with a host that stands so, and is well or isn't. With `may_cut` another's may be cut for it,
@@ -194,15 +198,21 @@ impl Seats {
         longest.map(|(place, _)| place)
     }
 
-    /// Whether a host that stands so may be asked for a document, where so many are kept. One to which a message was posted has
-    /// room beyond that of the others, since the reply to it waits for the document.
-    pub fn may_ask(&self, standing: Standing, is_posted: bool, kept: usize) -> bool {
+    /// Whether a host that stands so may be asked for a document, where so many are kept. One whose delivery goes on has room
+    /// beyond that of the others, since the reply to its message, or its first document, waits for this one.
+    pub fn may_ask(&self, standing: Standing, goes_on: bool, kept: usize) -> bool {
         let most = match standing {
-            _ if is_posted => MOST_DOCUMENTS + MOST_SEATS,
+            _ if goes_on => MOST_DOCUMENTS + MOST_SEATS,
             Standing::Free => MOST_DOCUMENTS,
-            _ => MOST_DOCUMENTS - DOCUMENTS_FREE,
+            Standing::Failing => MOST_DOCUMENTS - DOCUMENTS_FREE,
+            Standing::PutOff => MOST_DOCUMENTS - DOCUMENTS_NOT_PUT_OFF,
         };
         self.documents().saturating_add(kept) < most
+    }
+
+    /// Whether documents that are of no use yet take room of other hosts, where so many are kept.
+    pub fn is_crowded(&self, kept: usize) -> bool {
+        self.documents().saturating_add(kept) > MOST_DOCUMENTS - DOCUMENTS_LEFT
     }
 
     /// Puts an exchange at a place that is free.

@@ -3,9 +3,10 @@
 ghost use Rattle.std.specs.Prelude.{◌≡◌, IfOk};
 ghost use Rattle.ocm_net_exchanges.specs.Keeps.{reply_for};
 
-use crate::hosts::{HostNote, Hosts, Noted, Standing};
-use crate::keeps::{DOCUMENT_KEPT, Keeps, asks_document};
+use crate::hosts::{HostNote, Hosts};
+use crate::keeps::{Keeps, asks_document, kept_until};
 use crate::names::{Names, most_lookups};
+use crate::noted::{Noted, Standing};
 use crate::orders::Orders;
 use crate::seats::{LEAST_TIME, Room, Seat, Seats};
 use crate::turns::Turns;
@@ -27,6 +28,12 @@ const UNKNOWN_TIME: u64 = 5_000;
 
 /// How many bytes one read takes.
 const PIECE: usize = 16_384;
+
+/// From how long on a document makes room for others, where there is none, that is of no use before, in milliseconds.
+const LONG_WAIT: u64 = 10_000;
+
+/// How long the host of such a document is not asked for it again at least, in milliseconds.
+const SOON: u64 = 2_000;
 
 /// How long it is to the next try where there is no room, in milliseconds.
 const NO_ROOM: u64 = 1_000;
@@ -79,19 +86,6 @@ impl Drop for Table {
     }
 }
 
-/// How far an exchange may go with a host. A post is made where a document told, so somebody replied.
-fn limits_for(noted: Noted, request: &Bytes) -> Limits {
-    Limits {
-        most: MOST_REPLY,
-        whole: if noted.has_answered || !asks_document(request.as_slice()) {
-            KNOWN_TIME
-        } else {
-            UNKNOWN_TIME
-        },
-        is_by_rate: false,
-    }
-}
-
 /// The host of the message of whose delivery an exchange with this host is: the one that gave the last reply, a document, or
 /// this one where none came yet.
 fn recipient<'a>(replier: &'a Option<String>, host: &'a str) -> &'a str {
@@ -101,36 +95,77 @@ fn recipient<'a>(replier: &'a Option<String>, host: &'a str) -> &'a str {
     }
 }
 
-/// An exchange at its place.
-fn seated(
-    alloc: Global,
-    host: &str,
-    for_message: (&str, u32),
-    request: &Bytes,
+/// An exchange that is asked for.
+#[derive(Clone, Copy)]
+struct Asked<'a> {
+    host: &'a str,
+    request: &'a Bytes,
+    asks_document: bool,
+    /// What is known of the host.
     noted: Noted,
-    now: u64,
-    found: (Option<Lookup>, Addresses),
-) -> Result<Box<Seat>, ExchangeFault> {
-    let (lookup, addresses) = found;
-    let (to, turn) = for_message;
-    let asks_document = asks_document(request.as_slice());
-    let standing = noted.standing(asks_document);
-    let (host, to) = and(String::from_str(alloc, host)?, String::from_str(alloc, to))?;
-    let limits = limits_for(noted, request);
-    let request = request.copy()?;
-    let flight = Flight::new(request, limits, now, lookup, addresses);
-    let seat = Seat {
-        host,
-        to,
-        turn,
-        flight,
-        standing,
-        asks_document,
-        has_answered: noted.has_answered,
-    };
-    match Box::new(alloc, seat) {
-        Ok(seat) => Ok(seat),
-        Err(_) => Err(ExchangeFault::NoMemory),
+}
+
+impl<'a> Asked<'a> {
+    /// One with a host of which this is known.
+    fn new(host: &'a str, request: &'a Bytes, noted: Noted) -> Asked<'a> {
+        Asked {
+            host,
+            request,
+            asks_document: asks_document(request.as_slice()),
+            noted,
+        }
+    }
+
+    /// How the host stands.
+    fn standing(&self) -> Standing {
+        self.noted.standing(self.asks_document)
+    }
+
+    /// Whether the host neither fails nor takes turns.
+    fn is_well(&self) -> bool {
+        self.noted.is_well(self.asks_document)
+    }
+
+    /// How far it may go. A post is made where a document told, so somebody replied.
+    fn limits(&self) -> Limits {
+        Limits {
+            most: MOST_REPLY,
+            whole: if self.noted.has_answered || !self.asks_document {
+                KNOWN_TIME
+            } else {
+                UNKNOWN_TIME
+            },
+            is_by_rate: false,
+        }
+    }
+
+    /// The exchange at its place, for the message to a host that has this place among those of its round.
+    fn seated(
+        &self,
+        alloc: Global,
+        to: &str,
+        turn: u32,
+        found: (Option<Lookup>, Addresses),
+        now: u64,
+    ) -> Result<Box<Seat>, ExchangeFault> {
+        let (lookup, addresses) = found;
+        let host = String::from_str(alloc, self.host)?;
+        let (host, to) = and(host, String::from_str(alloc, to))?;
+        let request = self.request.copy()?;
+        let flight = Flight::new(request, self.limits(), now, lookup, addresses);
+        let seat = Seat {
+            host,
+            to,
+            turn,
+            flight,
+            standing: self.standing(),
+            asks_document: self.asks_document,
+            has_answered: self.noted.has_answered,
+        };
+        match Box::new(alloc, seat) {
+            Ok(seat) => Ok(seat),
+            Err(_) => Err(ExchangeFault::NoMemory),
+        }
     }
 }
 
@@ -176,6 +211,13 @@ impl Table {
         Ok(found)
     }
 
+    /// Whether a reply of a host to these bytes may be kept. Where none is, that is told at once.
+    pub fn may_have(&mut self, host: &str, request: &[u8], now: u64) -> bool {
+        self.awaited = None;
+        self.has_replied = false;
+        self.hosts.may_have(host, asks_document(request), now)
+    }
+
     /// Begins an exchange with a host that is not left alone, where there is room. Answers the place at which it is
     /// waited for.
     pub fn begin<R: Threads + Net>(
@@ -191,32 +233,27 @@ impl Table {
         let Some(turn) = self.turn_of_message(host, now) else {
             return Ok(None);
         };
-        if noted.is_tried {
-            self.put_off_namer(host, now, now);
+        let asked = Asked::new(host, request, noted);
+        if !self.may_begin(asked, now) {
+            self.wait_at(asked, now);
             return Ok(None);
         }
-        let asks_document = asks_document(request.as_slice());
-        let free = noted.free_from(asks_document);
-        if now < free {
-            self.turns.call_at(free);
-            self.put_off_namer(host, noted.until, now);
-            return Ok(None);
-        }
-        let Some((place, found)) = self.room_for(rt, alloc, set, host, request, noted, now) else {
+        let Some((place, found)) = self.room_for(rt, alloc, set, asked, now) else {
             self.turns.call_at(now.saturating_add(NO_ROOM));
             return Ok(None);
         };
         let to = recipient(&self.replier, host);
-        match seated(alloc, host, (to, turn), request, noted, now, found) {
+        match asked.seated(alloc, to, turn, found, now) {
             Ok(seat) => {
-                self.hosts.begin(alloc, host);
-                if !asks_document {
+                let round = self.turns.round();
+                self.hosts.begin(alloc, host, to, place, round, now);
+                if !asked.asks_document {
                     self.hosts.post(to);
                 }
                 self.seats.put(place, seat);
                 self.awaited = Some(place);
                 self.launch(alloc, set, place, now);
-                self.awaited = noted.is_well(asks_document).then_some(place);
+                self.awaited = asked.is_well().then_some(place);
                 Ok(self.awaited)
             }
             Err(fault) => {
@@ -226,6 +263,39 @@ impl Table {
         }
     }
 
+    /// Whether an exchange may begin now by what is known of its host: none goes on with it, it is not left alone, and it is the
+    /// turn of the message. Else a round follows when that may be.
+    fn may_begin(&mut self, asked: Asked<'_>, now: u64) -> bool {
+        if asked.noted.place.is_some() {
+            return false;
+        }
+        let mut free = asked.noted.free_from(asked.asks_document);
+        if free <= now {
+            let to = recipient(&self.replier, asked.host);
+            let round = self.turns.round();
+            free = self.hosts.turn_from(asked.host, to, round, now);
+        }
+        if now < free {
+            self.turns.call_at(free);
+        }
+        free <= now
+    }
+
+    /// Notes that a message has to wait for an exchange with a host.
+    fn wait_at(&mut self, asked: Asked<'_>, now: u64) {
+        let to = recipient(&self.replier, asked.host);
+        if let Some(place) = asked.noted.place {
+            if self.seats.is_for(place, to) {
+                self.hosts.wait_behind(asked.host, self.turns.round());
+                return;
+            }
+        }
+        if !asked.noted.is_paused(asked.asks_document, now) {
+            self.hosts.wait(asked.host, to);
+        }
+        self.put_off_namer(asked.host, asked.noted.until.max(now), now);
+    }
+
     /// A place for an exchange with a host, and the host's addresses or the look-up for them. None where there is no room for
     /// one of them, or for what is known of the host, or where it is the turn of others.
     fn room_for<R: Threads + Net>(
@@ -233,22 +303,19 @@ impl Table {
         rt: &R,
         alloc: Global,
         set: &Set,
-        host: &str,
-        request: &Bytes,
-        noted: Noted,
+        asked: Asked<'_>,
         now: u64,
     ) -> Option<(usize, (Option<Lookup>, Addresses))> {
-        let asks_document = asks_document(request.as_slice());
-        let standing = noted.standing(asks_document);
-        if !self.hosts.has_room_for(alloc, host, now) {
+        if !self.hosts.has_room_for(alloc, asked.host, now) {
             return None;
         }
-        let most = self.lookups_for(host, standing, now)?;
-        if asks_document && !self.may_ask(noted, now) {
+        let standing = asked.standing();
+        let most = self.lookups_for(asked.host, standing, now)?;
+        if asked.asks_document && !self.may_ask(asked.noted, now) {
             return None;
         }
-        let place = self.place_for(alloc, set, standing, noted.is_well(asks_document), now)?;
-        let found = self.names.find(rt, alloc, host, most, now)?;
+        let place = self.place_for(alloc, set, standing, asked.is_well(), now)?;
+        let found = self.names.find(rt, alloc, asked.host, most, now)?;
         Some((place, found))
     }
 
@@ -295,20 +362,26 @@ impl Table {
     }
 
     /// Where the last reply of this delivery is a document that names another host as its end point, which has to be waited
-    /// for: it is not asked for again before that host may be asked, unless an exchange for it is under way there. Where there
-    /// is no room for others of its kind, it makes room if it would not be kept until then.
+    /// for until then: it is of no use before. It makes room if that is long, or it has been kept for long, and there is none for
+    /// others of its kind, or where it takes that of hosts that were not asked yet.
     fn put_off_namer(&mut self, named: &str, until: u64, now: u64) {
         let Some(namer) = &self.replier else {
             return;
         };
-        if namer.as_str() == named || self.seats.is_under_way(named, namer.as_str()) {
+        if namer.as_str() == named {
             return;
         }
         self.hosts.put_off_document(namer.as_str(), named, until);
-        if until.saturating_sub(now) >= DOCUMENT_KEPT {
+        if self.keeps.is_crowded() && !self.hosts.is_posted(namer.as_str()) {
             let kept = self.keeps.documents(now);
-            if !self.seats.may_ask(Standing::PutOff, false, kept) {
+            let is_long = until.saturating_sub(now) >= LONG_WAIT
+                || self.hosts.has_kept(namer.as_str(), LONG_WAIT, now);
+            let may_stay = !is_long || self.seats.may_ask(Standing::PutOff, false, kept);
+            if !may_stay || self.seats.is_crowded(kept) {
+                let soon = now.saturating_add(SOON);
                 self.keeps.forget_documents(namer.as_str());
+                self.hosts.forget_document(namer.as_str());
+                self.hosts.lose_document(namer.as_str(), soon);
             }
         }
     }
@@ -320,7 +393,8 @@ impl Table {
         let kept = self.keeps.documents(now);
         let (round, message) = (self.turns.round(), self.turns.messages());
         let is_turn = self.placing.is_turn(standing, round, message);
-        let has_room = self.seats.may_ask(standing, noted.is_posted, kept);
+        let goes_on = noted.is_posted() || self.replier.is_some();
+        let has_room = self.seats.may_ask(standing, goes_on, kept);
         if is_turn && !has_room {
             self.placing.refuse(standing, message);
         }
@@ -382,7 +456,7 @@ impl Table {
         let Some((seat, lookup)) = self.seats.take(place, set) else {
             return;
         };
-        let (host, to, turn, flight) = seat.into_parts();
+        let (host, (to, turn), asks_document, flight) = seat.into_parts();
         if let Some(lookup) = lookup {
             self.names.put_by(alloc, host.as_str(), lookup);
         }
@@ -392,10 +466,16 @@ impl Table {
         if self.awaited != Some(place) {
             self.turns.call();
         }
+        if came.is_err() && !asks_document {
+            self.hosts.take_back(to.as_str());
+        }
         match came {
             Ok(reply) => {
-                self.hosts.reply(alloc, host.as_str());
+                self.hosts
+                    .reply(alloc, host.as_str(), to.as_str(), asks_document, now);
                 self.names.keep(alloc, host.as_str(), addresses, now);
+                let until = kept_until(now, request.as_slice());
+                self.hosts.keep(host.as_str(), asks_document, until);
                 if let Ok(Some((host, until))) = self.keeps.put(host, request, reply, now) {
                     self.hosts.lose_document(host.as_str(), until);
                 }
@@ -410,14 +490,20 @@ impl Table {
                 self.hosts.end(alloc, host.as_str());
                 self.names.forget(host.as_str());
                 self.fail(alloc, host.as_str(), false, now);
-                self.hosts.pass_over(to.as_str(), turn);
+                self.hosts.miss(host.as_str(), to.as_str(), turn, now);
             }
         }
     }
 
+    /// Forgets the documents of a host.
+    fn forget_documents(&mut self, host: &str) {
+        self.keeps.forget_documents(host);
+        self.hosts.forget_document(host);
+    }
+
     /// Leaves a host alone for a while that failed, or only its document where its reply was of no use.
     fn fail(&mut self, alloc: Global, host: &str, is_useless: bool, now: u64) {
-        self.keeps.forget_documents(host);
+        self.forget_documents(host);
         let note = self.hosts.fail(alloc, host, is_useless, now);
         self.note(note);
         self.turns
@@ -460,13 +546,14 @@ impl Table {
         self.has_replied = false;
     }
 
-    /// Notes that a message to a host was settled. Where replies are crowded, its document makes room for others.
+    /// Notes that a message to a host was settled. Where replies are crowded, its document makes room for others, once no reply
+    /// to another message to that host waits for it.
     fn succeed(&mut self, alloc: Global, host: &str) {
-        if self.keeps.is_crowded() {
-            self.keeps.forget_documents(host);
-        }
-        let note = self.hosts.succeed(alloc, host);
+        let note = self.hosts.settle(alloc, host);
         self.note(note);
+        if self.keeps.is_crowded() && !self.hosts.is_posted(host) {
+            self.forget_documents(host);
+        }
     }
 
     /// When one of the exchanges is to be looked at again, though nothing comes, in milliseconds.
