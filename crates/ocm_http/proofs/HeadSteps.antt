@@ -92,7 +92,7 @@ head_lines rules text look piece n stands whole =
     let same : take (length text + n) (text ++ piece) ≡ text ++ take n piece = take-append-add text piece n in
     subst (λ t. lines t ≤ 66) same few
 
-head_frame : (rules : Rules) (text : List ℕ) (look : Look) (piece : List ℕ) (n : ℕ) → Stands rules (stage.Head text look) → found look piece ≡ finds.Whole n
+pub head_frame : (rules : Rules) (text : List ℕ) (look : Look) (piece : List ℕ) (n : ℕ) → Stands rules (stage.Head text look) → found look piece ≡ finds.Whole n
     → (more : List ℕ) (ended : Bool) (frame : Frame) → HeadedBy rules (text ++ take n piece) (drop n piece ++ more) ended frame
     → IsFrame rules.kind rules.max rules.place (text ++ (piece ++ more)) ended frame
 head_frame rules text look piece n stands whole more ended frame headed =

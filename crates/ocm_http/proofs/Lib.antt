@@ -13,3 +13,5 @@ pub mod Stable
 pub mod Unique
 pub mod Cuts
 pub mod Requests
+pub mod ReadHeads
+pub mod Behind

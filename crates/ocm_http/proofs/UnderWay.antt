@@ -1,18 +1,20 @@
 -- Steps of reading a message from a source.
-use Rattle.std.proofs.Common.{◌≡◌, ℕ, ◌+◌, ◌-◌, ◌≤◌, List, [], ◌++◌, length, take, drop, Bool, true, false, Option, Some, None, Result, Ok, Err, refl, sym, ap, ◌∙◌, subst, arith, append_assoc, append-nil, length-append}
-use Rattle.std.specs.Prelude.{IfSome, IfOk}
+use Rattle.std.proofs.Common.{◌≡◌, ℕ, ◌+◌, ◌-◌, ◌≤◌, List, [], ◌++◌, length, take, drop, Bool, true, false, Option, Some, None, Result, Ok, Err, refl, sym, ap, ◌∙◌, subst, arith, append_assoc, append-nil, length-append, inl, inr}
+use Rattle.std.specs.Prelude.{IfSome, IfOk, IfErr}
 use Rattle.std.proofs.lemmas.List.{take-append-drop, length-take-le, drop-take, drop-drop, length-drop}
 use Rattle.ocm_base.specs.Outside.{Takes}
 use Rattle.ocm_base.proofs.Pieces.{Takes-twice}
+use Rattle.ocm_limits.specs.Limits.{most_body_bytes}
 use Rattle.ocm_http_heads.specs.Endings.{of_head}
 use Rattle.ocm_http.specs.Places.{past}
 use Rattle.ocm_http.specs.Frames.{Frame, Given, Refused, Over, IsFrame}
 use Rattle.ocm_http.specs.Stages.{Goes, Makes, Faults, Ends, Rest}
-use Rattle.ocm_http.specs.Readers.{ReaderState, ReadingOf, MessageOf, Spends, Under, Keeps, holding, taken_at_most}
+use Rattle.ocm_http.specs.Readers.{ReaderState, ReadingOf, MessageOf, Spends, ReadOf, NextOf, Under, Keeps, Settles, holding, settled, taken_at_most, with_held}
 use Rattle.ocm_http.specs.declared.messages.Kind.{Kind}
+use Rattle.ocm_http.specs.declared.messages.Kind.TheVariants.{Requests}
 use Rattle.ocm_http.specs.declared.messages.Message.{Message}
 use Rattle.ocm_http.specs.declared.messages.FrameFault.{FrameFault}
-use Rattle.ocm_http.specs.declared.messages.FrameFault.TheVariants.{NoMemory}
+use Rattle.ocm_http.specs.declared.messages.FrameFault.TheVariants.{ReadFault, NoMemory}
 use Rattle.ocm_http.specs.declared.stages.Rules.{Rules}
 use Rattle.ocm_http.specs.declared.stages.Stage.{Stage}
 use Rattle.ocm_http.specs.declared.stages.Stage.TheVariants as stage
@@ -34,7 +36,7 @@ window_size bytes from to h k =
 
 -- ---- a message under way
 
-takes_none : (before : Option (List ℕ)) → Takes before before []
+pub takes_none : (before : Option (List ℕ)) → Takes before before []
 takes_none None = refl
 takes_none (Some rest) = refl
 
@@ -277,3 +279,109 @@ kept_some old new before after count m s e few place = (
   where
     small : (n : ℕ) → n ≤ 4096 → past 0 n ≡ n
     small n h = grind arith
+
+-- ---- all that a reading gave
+
+ended_fault : (rules : Rules) (before after : Option (List ℕ)) (held left : List ℕ) (at_stage : Stage) (spent : ℕ) (r : Result (Option Message) FrameFault)
+    → Under rules before after held left at_stage spent → left ≡ [] → IfSome after (λ rest. rest ≡ []) → IfErr r (λ f. Rest rules at_stage [] true (Refused f))
+    → IfErr r (λ f. ((f ≡ ReadFault) → ⊥) → ((f ≡ NoMemory) → ⊥) → (ended : Bool) × ReadingOf rules.kind rules.max rules.place held before after ended (Refused f))
+ended_fault rules before after held left at_stage spent (Ok o) u none told ends = tt
+ended_fault rules before after held left at_stage spent (Err f) u none told ends = λ _ _. (true, under_ended rules before after held left at_stage spent (Refused f) u none told ends)
+
+ended_empty : (left : List ℕ) (r : Result (Option Message) FrameFault) → left ≡ [] → IfOk r (λ o. o ≡ None → left ≡ [])
+ended_empty left (Ok o) none = λ _. none
+ended_empty left (Err f) none = tt
+
+pub read_ended : (rules : Rules) (before after : Option (List ℕ)) (held left : List ℕ) (at_stage : Stage) (spent : ℕ) (r : Result (Option Message) FrameFault)
+    → Under rules before after held left at_stage spent → length left ≤ 4096 → left ≡ [] → IfSome after (λ rest. rest ≡ []) → IfOk r (Ends rules at_stage) → IfErr r (λ f. Rest rules at_stage [] true (Refused f))
+    → ReadOf rules.kind rules.max rules.place held before after left spent r
+read_ended rules before after held left at_stage spent r u few none told ends refused = record {
+  message = ended_message rules before after held left at_stage spent r u none told ends;
+  over = ended_over rules before after held left at_stage spent r u none told ends;
+  emptied = ended_empty left r none;
+  fault = ended_fault rules before after held left at_stage spent r u none told refused;
+  spends = under_spends rules before after held left at_stage spent u few;
+}
+
+pub read_failed : (rules : Rules) (before after : Option (List ℕ)) (held left : List ℕ) (at_stage : Stage) (spent : ℕ)
+    → Under rules before after held left at_stage spent → length left ≤ 4096 → ReadOf rules.kind rules.max rules.place held before after left spent (Err ReadFault)
+read_failed rules before after held left at_stage spent u few = record {
+  message = tt;
+  over = tt;
+  emptied = tt;
+  fault = λ other. absurd (other refl);
+  spends = under_spends rules before after held left at_stage spent u few;
+}
+
+pub read_refused : (rules : Rules) (before after : Option (List ℕ)) (held left : List ℕ) (at_stage : Stage) (spent : ℕ) (fault : FrameFault)
+    → Under rules before after held left at_stage spent → length left ≤ 4096 → Faults rules at_stage left fault → ReadOf rules.kind rules.max rules.place held before after left spent (Err fault)
+read_refused rules before after held left at_stage spent fault u few faults = record {
+  message = tt;
+  over = tt;
+  emptied = tt;
+  fault = λ _ other. under_fault rules before after held left at_stage spent fault u faults other;
+  spends = under_spends rules before after held left at_stage spent u few;
+}
+
+pub read_given : (rules : Rules) (before after : Option (List ℕ)) (held left : List ℕ) (at_stage : Stage) (spent n : ℕ) (m : Message)
+    → Under rules before after held left at_stage spent → length left ≤ 4096 → Makes rules at_stage m left n
+    → ReadOf rules.kind rules.max rules.place held before after (drop n left) (past spent n) (Ok (Some m))
+read_given rules before after held left at_stage spent n m u few makes = record {
+  message = under_given rules before after held left at_stage spent n m u makes;
+  over = λ h. cc;
+  emptied = λ h. cc;
+  fault = tt;
+  spends = under_spent rules before after held left at_stage spent n m u few makes;
+}
+
+-- ---- a reader that read
+
+next_same : (old : ReaderState) (held : List ℕ) (before after : Option (List ℕ)) (count : ℕ) (r : Result (Option Message) FrameFault) → length held ≤ 4096
+    → ReadOf old.kind old.max old.place old.held before after held count r → NextOf old (settled (with_held old held) count r) before after r
+next_same old held before after count (Ok (Some m)) few read = record {
+  message = placed old.kind old.max old.place old.held before after (Given m held) held count read.message;
+  over = λ h. cc;
+  fault = tt;
+  taken = kept_some old (settled (with_held old held) count (Ok (Some m))) before after count m read.spends refl few refl;
+}
+next_same old held before after count (Ok None) few read = record {
+  message = tt;
+  over = read.over;
+  fault = tt;
+  taken = kept_none old (settled (with_held old held) count (Ok None)) before after count read.spends refl (read.emptied refl) refl;
+}
+next_same old held before after count (Err f) few read = record {
+  message = tt;
+  over = tt;
+  fault = read.fault;
+  taken = kept_fault old (settled (with_held old held) count (Err f)) before after count f read.spends refl refl;
+}
+
+-- what a reader answers of what was read
+pub next_of : (old : ReaderState) (held : List ℕ) (before after : Option (List ℕ)) (count : ℕ) (read r : Result (Option Message) FrameFault) → length held ≤ 4096
+    → ReadOf old.kind old.max old.place old.held before after held count read → Settles read r → NextOf old (settled (with_held old held) count r) before after r
+next_of old held before after count read r few is settles = elim settles [
+  | inl same ↦ subst (λ r. NextOf old (settled (with_held old held) count r) before after r) (sym same) (next_same old held before after count read few is)
+  | inr lacks ↦ subst (λ r. NextOf old (settled (with_held old held) count r) before after r) (sym lacks) (record {
+    message = tt;
+    over = tt;
+    fault = λ _ other. absurd (other refl);
+    taken = kept_fault old (settled (with_held old held) count (Err NoMemory)) before after count NoMemory is.spends refl refl;
+  })
+]
+
+-- the same, where the reader was this before and is that after
+pub next_told : (old self new : ReaderState) (held : List ℕ) (before after : Option (List ℕ)) (count : ℕ) (read r : Result (Option Message) FrameFault) → old ≡ self → length held ≤ 4096
+    → ReadOf old.kind old.max old.place old.held before after held count read → Settles read r → new ≡ settled (with_held old held) count r → NextOf self new before after r
+next_told old self new held before after count read r same few is settles is_new =
+    subst (λ (z : ReaderState × ReaderState). NextOf z.0 z.1 before after r) (λ i. (same i, sym is_new i)) (next_of old held before after count read r few is settles)
+
+-- the same of a request whose head is these bytes
+pub behind_told : (old self new : ReaderState) (text held : List ℕ) (before after : Option (List ℕ)) (count : ℕ) (read r : Result (Option Message) FrameFault) → old ≡ self → self.kind ≡ Requests → self.max ≡ most_body_bytes
+    → length held ≤ 4096 → ReadOf Requests most_body_bytes old.place text before after held count read → Settles read r → new ≡ settled (with_held old held) count r → NextOf (with_held self text) new before after r
+behind_told old self new text held before after count read r same kind max few is settles is_new =
+    let kinds : Requests ≡ old.kind = sym (ap (λ (s : ReaderState). s.kind) same ∙ kind) in
+    let maxes : most_body_bytes ≡ old.max = sym (ap (λ (s : ReaderState). s.max) same ∙ max) in
+    let own : ReadOf old.kind old.max old.place text before after held count read =
+    subst (λ (z : Kind × ℕ). ReadOf z.0 z.1 old.place text before after held count read) (λ i. (kinds i, maxes i)) is in
+    next_told (with_held old text) (with_held self text) new held before after count read r (ap (λ s. with_held s text) same) few own settles is_new

@@ -1,8 +1,10 @@
 pub mod Frames
+pub mod Fronts
 pub mod Laws
 pub mod Messages
 pub mod Places
 pub mod ReadBack
+pub mod ReadHeads
 pub mod Readers
 pub mod Stages
 pub mod Written

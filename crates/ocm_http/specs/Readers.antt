@@ -1,12 +1,13 @@
 -- What a reader reads of its source.
-use Rattle.std.specs.Prelude.{◌≡◌, ℕ, ◌+◌, ◌*◌, ◌≤◌, Bool, List, [], ◌++◌, length, Option, Some, None, Result, Ok, Err, IfSome, IsTrue}
+use Rattle.std.specs.Prelude.{◌≡◌, ℕ, ◌+◌, ◌*◌, ◌≤◌, ◌⊎◌, Bool, true, List, [], ◌++◌, length, Option, Some, None, Result, Ok, Err, IfOk, IfErr, IfSome, IsTrue}
 use Rattle.ocm_base.specs.Outside.{Takes}
 use Rattle.ocm_http.specs.Places.{past}
-use Rattle.ocm_http.specs.Frames.{Frame, IsFrame}
+use Rattle.ocm_http.specs.Frames.{Frame, Given, Refused, Over, IsFrame}
 use Rattle.ocm_http.specs.Stages.{Stands, Rest, budget}
 use Rattle.ocm_http.specs.declared.messages.Kind.{Kind}
 use Rattle.ocm_http.specs.declared.messages.Message.{Message}
 use Rattle.ocm_http.specs.declared.messages.FrameFault.{FrameFault}
+use Rattle.ocm_http.specs.declared.messages.FrameFault.TheVariants.{ReadFault, NoMemory}
 use Rattle.ocm_http.specs.declared.stages.Rules.{Rules}
 use Rattle.ocm_http.specs.declared.stages.Stage.{Stage}
 
@@ -65,6 +66,15 @@ pub record Spends (max : ℕ) (held : List ℕ) (before after : Option (List ℕ
   pub split : held ++ got ≡ gone ++ left
   pub counted : count ≡ past 0 (length gone)
 
+-- all that the reading of one message gave: a message, behind which these bytes are left; the end of the input, and none are;
+-- or a fault
+pub record ReadOf (kind : Kind) (max place : ℕ) (held : List ℕ) (before after : Option (List ℕ)) (left : List ℕ) (count : ℕ) (result : Result (Option Message) FrameFault) : Type 0 where
+  pub message : IfOk result (λ o. IfSome o (λ m. MessageOf kind max place held before after (Given m left) left 0 count))
+  pub over : IfOk result (λ o. o ≡ None → ReadingOf kind max place held before after true Over)
+  pub emptied : IfOk result (λ o. o ≡ None → left ≡ [])
+  pub fault : IfErr result (λ f. ((f ≡ ReadFault) → ⊥) → ((f ≡ NoMemory) → ⊥) → (ended : Bool) × ReadingOf kind max place held before after ended (Refused f))
+  pub spends : Spends max held before after left count
+
 -- the same of a reader
 abbrev pub Reads : ReaderState → Option (List ℕ) → Option (List ℕ) → Bool → Frame → Type 0
 Reads reader before after ended frame = ReadingOf reader.kind reader.max reader.place reader.held before after ended frame
@@ -85,3 +95,26 @@ pub record Under (rules : Rules) (before after : Option (List ℕ)) (held left :
   pub spent_is : spent ≡ past 0 (length gone)
   pub rest : (more : List ℕ) (ended : Bool) (frame : Frame) → Rest rules stage (left ++ more) ended frame
       → IsFrame rules.kind rules.max rules.place ((held ++ got) ++ more) ended frame
+
+-- ---- a reader that read
+
+-- a reader that holds these bytes in place of its own
+abbrev pub with_held : ReaderState → List ℕ → ReaderState
+with_held reader held = record { kind = reader.kind; max = reader.max; place = reader.place; held = held; failed = reader.failed; gone = reader.gone }
+
+-- a reader behind what was answered, where so many bytes of it are gone
+abbrev pub settled : ReaderState → ℕ → Result (Option Message) FrameFault → ReaderState
+settled old count (Ok (Some message)) = record { kind = old.kind; max = old.max; place = past old.place count; held = old.held; failed = old.failed; gone = 0 }
+settled old count (Ok None) = record { kind = old.kind; max = old.max; place = past old.place count; held = old.held; failed = old.failed; gone = past old.gone count }
+settled old count (Err fault) = record { kind = old.kind; max = old.max; place = old.place; held = old.held; failed = true; gone = past old.gone count }
+
+-- what was read is answered, unless there is no memory to share its body
+abbrev pub Settles : Result (Option Message) FrameFault → Result (Option Message) FrameFault → Type 0
+Settles read result = (result ≡ read) ⊎ (result ≡ Err NoMemory)
+
+-- what a reader gave of its next message, which was this before and that after
+pub record NextOf (old new : ReaderState) (before after : Option (List ℕ)) (result : Result (Option Message) FrameFault) : Type 0 where
+  pub message : IfOk result (λ o. IfSome o (λ m. ReadsMessage old before after (Given m new.held) new.held new.place))
+  pub over : IfOk result (λ o. o ≡ None → Reads old before after true Over)
+  pub fault : IfErr result (λ f. ((f ≡ ReadFault) → ⊥) → ((f ≡ NoMemory) → ⊥) → (ended : Bool) × Reads old before after ended (Refused f))
+  pub taken : (got : List ℕ) × Takes before after got × (length got ≤ taken_at_most old.max) × Keeps old new got result

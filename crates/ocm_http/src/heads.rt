@@ -25,7 +25,8 @@ fn read_head(alloc: Global, kind: Kind, text: &[u8]) -> Result<Option<Head>, NoM
     }
 }
 
-fn length_of(max: u64, head: &Head) -> Result<Length, LengthFault>
+/// The length of the body that a head tells, at most `max` bytes.
+pub(crate) fn length_of(max: u64, head: &Head) -> Result<Length, LengthFault>
     ensures length { result ≡ messages.length_of max head.now }
     ensures within { IfOk result (IsWithin max) }
 {
@@ -47,7 +48,14 @@ fn length_fault(fault: LengthFault, place: u64) -> FrameFault
 }
 
 /// The body that a head tells begins.
-fn begin(alloc: Global, rules: Rules, head: Head, length: Length, first: u64, next: u64) -> Begun
+pub(crate) fn begin(
+    alloc: Global,
+    rules: Rules,
+    head: Head,
+    length: Length,
+    first: u64,
+    next: u64,
+) -> Begun
     requires { IsWithin rules.max length }
     ensures { BeginsBody rules head length first next result }
 {

@@ -1,10 +1,13 @@
-ghost use Rattle.std.specs.Prelude.{◌≡◌, ◌≤◌, [], false, true, length, is_err, IfOk, IfErr, IfSome, IsFalse, None};
+ghost use Rattle.std.specs.Prelude.{◌≡◌, ◌≤◌, ℕ, List, [], false, true, length, is_err, IfOk, IfErr, IfSome, IsFalse, None};
 ghost use Rattle.ocm_base.specs.Outside.{Rose, Takes};
 ghost use Rattle.ocm_http.specs.Frames.{Given, Refused, Over};
-ghost use Rattle.ocm_http.specs.Readers.{Keeps, Reads, ReadsMessage, holding, taken_at_most};
+ghost use Rattle.ocm_limits.specs.Limits.{most_body_bytes};
+ghost use Rattle.ocm_http.specs.ReadHeads.{IsHeadIn};
+ghost use Rattle.ocm_http.specs.Readers.{Keeps, NextOf, Reads, ReadsMessage, holding, settled, Settles, taken_at_most, with_held};
 
 use crate::messages::{FrameFault, Kind, Message, sharing};
-use crate::reading::read_message;
+use crate::read_heads::ReadHead;
+use crate::reading::{read_behind, read_message};
 use crate::stages::{Rules, past};
 use crate::windows::Window;
 use ocm_base::{NoMemory, Source};
@@ -110,7 +113,45 @@ impl Reader {
             place: self.place,
         };
         let mut gone = 0;
-        match read_message(rules, &mut self.window, source, &mut gone) {
+        let read = read_message(rules, &mut self.window, source, &mut gone);
+        self.settle(read, gone)
+    }
+
+    /// The message whose head was read ahead. The source gives the bytes behind that head. It is read as `next` reads it
+    /// where the reader holds the bytes of the head.
+    pub fn next_behind<S: Source>(
+        &mut self,
+        source: &mut S,
+        head: ReadHead,
+    ) -> Result<Option<Message>, FrameFault>
+        requires open { IsFalse self.old.failed }
+        requires kind { self.old.kind ≡ Kind.Requests }
+        requires max { self.old.max ≡ most_body_bytes }
+        requires none_held { self.old.held ≡ [] }
+        ensures read { (text : List ℕ) × IsHeadIn text head × NextOf (with_held self.old text) self.new (S.left source.old) (S.left source.new) result }
+        ensures read_fault { result ≡ Err FrameFault.ReadFault → Rose (S.faults source.old) (S.faults source.new) }
+        ensures never_falls { S.faults source.old ≤ S.faults source.new }
+        ensures few_held { length self.new.held ≤ 4096 }
+        ensures none_gone { IfOk result (λ o. IfSome o (λ _. self.new.gone ≡ 0)) }
+        ensures failed { self.new.failed ≡ is_err result }
+        ensures same_kind { self.new.kind ≡ self.old.kind }
+        ensures same_max { self.new.max ≡ self.old.max }
+    {
+        let mut gone = 0;
+        let read = read_behind(self.place, &mut self.window, source, &mut gone, head);
+        self.settle(read, gone)
+    }
+
+    /// Answers what was read, of which so many bytes are gone; copies of a long body share it.
+    fn settle(
+        &mut self,
+        read: Result<Option<Message>, FrameFault>,
+        gone: u64,
+    ) -> Result<Option<Message>, FrameFault>
+        ensures settles { Settles read result }
+        ensures new { self.new ≡ settled self.old gone result }
+    {
+        match read {
             Ok(Some(message)) => match sharing(message) {
                 Ok(message) => {
                     self.place = self.place.saturating_add(gone);

@@ -1,13 +1,18 @@
-ghost use Rattle.std.specs.Prelude.{◌≡◌, ◌≤◌, [], true, length, IfOk, IfErr, IfSome, None};
+ghost use Rattle.std.specs.Prelude.{◌≡◌, ◌≤◌, [], List, ℕ, length};
 ghost use Rattle.ocm_base.specs.Outside.{Rose};
-ghost use Rattle.ocm_http.specs.Frames.{Given, Refused, Over};
-ghost use Rattle.ocm_http.specs.Readers.{ReadingOf, MessageOf, Spends};
+ghost use Rattle.ocm_limits.specs.Limits.{most_body_bytes};
+ghost use Rattle.ocm_http.specs.Stages.{Stands};
+ghost use Rattle.ocm_http.specs.ReadHeads.{IsHeadIn};
+ghost use Rattle.ocm_http.specs.Readers.{ReadOf, Under};
 
 use crate::endings::end;
-use crate::messages::{FrameFault, Message};
-use crate::stages::{Fed, Rules, Stage, feed, past, start};
+use crate::heads::begin;
+use crate::messages::{FrameFault, Kind, Message};
+use crate::read_heads::ReadHead;
+use crate::stages::{Begun, Fed, Rules, Stage, feed, past, start};
 use crate::windows::Window;
 use ocm_base::Source;
+use ocm_limits::MOST_BODY_BYTES;
 
 /// Reads to the end of a message, or of the input, or to a fault; counts the bytes that are gone from the window.
 pub(crate) fn read_message<S: Source>(
@@ -17,17 +22,60 @@ pub(crate) fn read_message<S: Source>(
     gone: &mut u64,
 ) -> Result<Option<Message>, FrameFault>
     requires { gone.old ≡ 0 }
-    ensures message { IfOk result (λ o. IfSome o (λ m. MessageOf rules.kind rules.max rules.place window.old (S.left source.old) (S.left source.new) (Given m window.new) window.new 0 gone.new)) }
-    ensures over { IfOk result (λ o. o ≡ None → ReadingOf rules.kind rules.max rules.place window.old (S.left source.old) (S.left source.new) true Over) }
-    ensures fault { IfErr result (λ f. ((f ≡ FrameFault.ReadFault) → ⊥) → ((f ≡ FrameFault.NoMemory) → ⊥) → (ended : _) × ReadingOf rules.kind rules.max rules.place window.old (S.left source.old) (S.left source.new) ended (Refused f)) }
+    ensures read { ReadOf rules.kind rules.max rules.place window.old (S.left source.old) (S.left source.new) window.new gone.new result }
     ensures read_fault { result ≡ Err FrameFault.ReadFault → Rose (S.faults source.old) (S.faults source.new) }
     ensures never_falls { S.faults source.old ≤ S.faults source.new }
     ensures within { length window.new ≤ 4096 }
-    ensures emptied { IfOk result (λ o. o ≡ None → window.new ≡ []) }
-    ensures spends { Spends rules.max window.old (S.left source.old) (S.left source.new) window.new gone.new }
+{
+    let stage = start(window.allocator());
+    read_on(rules, window, source, gone, stage)
+}
+
+/// The same of a request whose head was read ahead, where the window has no bytes. Those of the head count as gone.
+pub(crate) fn read_behind<S: Source>(
+    place: u64,
+    window: &mut Window,
+    source: &mut S,
+    gone: &mut u64,
+    head: ReadHead,
+) -> Result<Option<Message>, FrameFault>
+    requires { window.old ≡ [] }
+    ensures read { (text : List ℕ) × IsHeadIn text head × ReadOf Kind.Requests most_body_bytes place text (S.left source.old) (S.left source.new) window.new gone.new result }
+    ensures read_fault { result ≡ Err FrameFault.ReadFault → Rose (S.faults source.old) (S.faults source.new) }
+    ensures never_falls { S.faults source.old ≤ S.faults source.new }
+    ensures within { length window.new ≤ 4096 }
 {
     let alloc = window.allocator();
-    let mut stage = start(alloc);
+    let rules = Rules {
+        kind: Kind::Requests,
+        max: MOST_BODY_BYTES,
+        place,
+    };
+    let (head, body, skipped, size) = head.into_parts();
+    let first = past(place, skipped);
+    let next = past(place, size);
+    *gone = size as u64;
+    match begin(alloc, rules, head, body, first, next) {
+        Begun::All(message) => Ok(Some(message)),
+        Begun::On(stage) => read_on(rules, window, source, gone, stage),
+    }
+}
+
+/// Reads on from where the reading of a message stands, whatever was read of it before.
+fn read_on<S: Source>(
+    rules: Rules,
+    window: &mut Window,
+    source: &mut S,
+    gone: &mut u64,
+    mut stage: Stage,
+) -> Result<Option<Message>, FrameFault>
+    requires stands { Stands rules stage }
+    ensures read { (held : List ℕ) → Under rules (S.left source.old) (S.left source.old) held window.old stage gone.old → ReadOf rules.kind rules.max rules.place held (S.left source.old) (S.left source.new) window.new gone.new result }
+    ensures read_fault { result ≡ Err FrameFault.ReadFault → Rose (S.faults source.old) (S.faults source.new) }
+    ensures never_falls { S.faults source.old ≤ S.faults source.new }
+    ensures within { length window.new ≤ 4096 }
+{
+    let alloc = window.allocator();
     'message: loop {
         match window.ready(source) {
             Err(_) => {

@@ -1,9 +1,9 @@
-ghost use Rattle.std.specs.Prelude.{◌≡◌, ◌<◌, ◌≤◌, ◌++◌, None, IfOk, IfSome, OnErr, length};
+ghost use Rattle.std.specs.Prelude.{◌≡◌, ◌<◌, ◌≤◌, ◌++◌, [], None, IfOk, IfSome, OnErr, length};
 ghost use Rattle.ocm_base.specs.Outside.{Rose};
 ghost use Rattle.ocm_server_connections.specs.Sides.{Sides};
 
 use ocm_base::{Failed, Joined, Sink, Source};
-use ocm_http::{Fixed, FrameFault, Message, Reader, write_fixed};
+use ocm_http::{Fixed, FrameFault, Message, ReadHead, Reader, write_fixed};
 use ocm_net_lines::ClientLine;
 use ocm_server_connections::Conn;
 use ocm_turn::{Dated, Pass};
@@ -52,6 +52,20 @@ impl<'a, R: time::Clock> StreamConn<'a, R> {
         match &mut self.line {
             Some(line) => line.read(buf),
             None => Some(0),
+        }
+    }
+
+    /// The head of the next message, where the line read it ahead and the reader holds no bytes.
+    fn take_head(&mut self, reader: &Reader) -> Option<ReadHead>
+        ensures none_held { IfSome result (λ _. reader.now.held ≡ []) }
+        ensures same { self.new.faults ≡ self.old.faults }
+    {
+        if reader.held() > 0 {
+            return None;
+        }
+        match &mut self.line {
+            Some(line) => line.take_head(),
+            None => None,
         }
     }
 
@@ -130,7 +144,10 @@ impl<'a, R: time::Clock> Conn for StreamConn<'a, R> {
     } };
 
     fn next(&mut self, reader: &mut Reader) -> Result<Option<Message>, FrameFault> {
-        reader.next(self)
+        match self.take_head(reader) {
+            Some(head) => reader.next_behind(self, head),
+            None => reader.next(self),
+        }
     }
 
     fn rests(&mut self, _reader: &Reader) -> bool {

@@ -4,6 +4,7 @@ ghost use Rattle.ocm_net_exchanges.specs.Keeps as keeps;
 ghost use Rattle.ocm_net_exchanges.specs.Keeps.{is_kept, kept_until, leaving, left_after, place_for, oldest, reply_for, stays, with_room, without_or_oldest};
 
 use ocm_base::{Bytes, NoMemory};
+use ocm_net_hosts::DOCUMENT_KEPT;
 use std::alloc::{AllocError, Global};
 
 /// How many replies are kept at most: twice as many as documents may be, so that there is room for a reply to a message beside
@@ -15,9 +16,6 @@ const CROWDED: usize = 64;
 
 /// How the request for a document begins.
 const DOCUMENT: &[u8] = b"GET ";
-
-/// How long a document is kept, in milliseconds: for longer than an exchange takes, since a delivery may need two of them.
-pub const DOCUMENT_KEPT: u64 = 30_000;
 
 /// How long the reply to a message is kept that nobody asks for, in milliseconds: for longer than a host is left alone, and an
 /// exchange with it takes.

@@ -4,20 +4,13 @@
 //! returns.
 #![tactic(auto)]
 
-mod counts;
+mod asked;
 mod deliveries;
-mod end_points;
 mod exchanges;
-mod failures;
-mod hosts;
 mod keeps;
-mod messages;
 mod names;
-mod noted;
-mod orders;
 mod seats;
 mod tables;
-mod turns;
 
 pub use deliveries::Delivering;
 pub use exchanges::Exchanges;

@@ -1,7 +1,7 @@
 //! The addresses of hosts, looked up beside what goes on.
 
-use crate::noted::Standing;
 use ocm_net_flights::{Addresses, Lookup, Lookups, is_literal, name_and_port};
+use ocm_net_hosts::Standing;
 use std::alloc::Global;
 use std::net::Net;
 use std::thread::Threads;

@@ -1,7 +1,7 @@
 //! The places of exchanges that are under way.
 
-use crate::noted::Standing;
 use ocm_net_flights::{Flight, Lookup};
+use ocm_net_hosts::Standing;
 use ocm_net_waits::Set;
 use std::alloc::{AllocError, Global};
 
@@ -16,6 +16,10 @@ const MOST_PUT_OFF: usize = 32;
 
 /// How many places are free for hosts that neither fail nor were put off.
 const PLACES_FREE: usize = 32;
+
+/// How many more are free where a host is asked for a document that fails or was put off. They are for messages whose documents
+/// are here: else those of hosts that hang would drive out the others without end.
+const PLACES_TO_GO_ON: usize = 8;
 
 /// How many documents are kept or asked for at most. So the replies to messages find room beside them, and a document is here
 /// still when its host's message goes on.
@@ -141,9 +145,15 @@ impl Seats {
         asked
     }
 
-    /// Whether a host that stands so, and is well or isn't, may have a place more.
-    fn may_take(&self, standing: Standing, is_well: bool) -> bool {
-        let free = if is_well { 0 } else { PLACES_FREE };
+    /// Whether a host that stands so, and is well or isn't, may have a place more, where it is asked for a document or isn't.
+    fn may_take(&self, standing: Standing, is_well: bool, asks_document: bool) -> bool {
+        let free = if is_well {
+            0
+        } else if asks_document && standing != Standing::Free {
+            PLACES_FREE + PLACES_TO_GO_ON
+        } else {
+            PLACES_FREE
+        };
         if self.taken.saturating_add(free) >= MOST_SEATS {
             return false;
         }
@@ -162,10 +172,17 @@ impl Seats {
         }
     }
 
-    /// A place for an exchange with a host that stands so, and is well or isn't. With `may_cut` another's may be cut for it,
-    /// where no place is free.
-    pub fn room(&self, standing: Standing, is_well: bool, may_cut: bool, now: u64) -> Room {
-        if self.may_take(standing, is_well) {
+    /// A place for an exchange with a host that stands so, and is well or isn't, and is asked for a document or isn't. With
+    /// `may_cut` another's may be cut for it, where no place is free.
+    pub fn room(
+        &self,
+        standing: Standing,
+        is_well: bool,
+        asks_document: bool,
+        may_cut: bool,
+        now: u64,
+    ) -> Room {
+        if self.may_take(standing, is_well, asks_document) {
             if let Some(place) = self.seats.iter().position(|seat| seat.is_none()) {
                 return Room::Free(place);
             }

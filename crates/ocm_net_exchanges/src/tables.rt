@@ -3,28 +3,17 @@
 ghost use Rattle.std.specs.Prelude.{◌≡◌, IfOk};
 ghost use Rattle.ocm_net_exchanges.specs.Keeps.{reply_for};
 
-use crate::hosts::{HostNote, Hosts};
+use crate::asked::{Asked, recipient};
 use crate::keeps::{Keeps, asks_document, kept_until};
 use crate::names::{Names, most_lookups};
-use crate::noted::{Noted, Standing};
-use crate::orders::Orders;
 use crate::seats::{LEAST_TIME, Room, Seat, Seats};
-use crate::turns::Turns;
 use ocm_base::{Bytes, and};
-use ocm_net_flights::{Addresses, ExchangeFault, Flight, Limits, Lookup, Lookups, Step};
+use ocm_net_flights::{Addresses, ExchangeFault, Lookup, Lookups, Step};
+use ocm_net_hosts::{HostNote, Hosts, Noted, Orders, Standing, Start, Turns};
 use ocm_net_waits::Set;
 use std::alloc::{AllocError, Global};
 use std::net::Net;
 use std::thread::Threads;
-
-/// The most bytes of a reply to a delivery.
-const MOST_REPLY: usize = 65_536;
-
-/// How long an exchange may take with a host that replied before, or that another's document named, in milliseconds.
-const KNOWN_TIME: u64 = 20_000;
-
-/// How long an exchange may take with any other host, in milliseconds.
-const UNKNOWN_TIME: u64 = 5_000;
 
 /// How many bytes one read takes.
 const PIECE: usize = 16_384;
@@ -51,6 +40,8 @@ pub struct Table {
     notes: Vec<HostNote>,
     /// Whether the last request got a reply.
     has_replied: bool,
+    /// Whether it asked for a document.
+    is_document: bool,
     /// The host that gave the last reply of this delivery, where there was memory to note it. A document may name another
     /// host's end point.
     replier: Option<String>,
@@ -76,6 +67,7 @@ impl Drop for Table {
             piece: _,
             notes: _,
             has_replied: _,
+            is_document: _,
             replier: _,
             awaited: _,
             ended: _,
@@ -83,89 +75,6 @@ impl Drop for Table {
             naming: _,
             turns: _,
         } = self;
-    }
-}
-
-/// The host of the message of whose delivery an exchange with this host is: the one that gave the last reply, a document, or
-/// this one where none came yet.
-fn recipient<'a>(replier: &'a Option<String>, host: &'a str) -> &'a str {
-    match replier {
-        Some(replier) => replier.as_str(),
-        None => host,
-    }
-}
-
-/// An exchange that is asked for.
-#[derive(Clone, Copy)]
-struct Asked<'a> {
-    host: &'a str,
-    request: &'a Bytes,
-    asks_document: bool,
-    /// What is known of the host.
-    noted: Noted,
-}
-
-impl<'a> Asked<'a> {
-    /// One with a host of which this is known.
-    fn new(host: &'a str, request: &'a Bytes, noted: Noted) -> Asked<'a> {
-        Asked {
-            host,
-            request,
-            asks_document: asks_document(request.as_slice()),
-            noted,
-        }
-    }
-
-    /// How the host stands.
-    fn standing(&self) -> Standing {
-        self.noted.standing(self.asks_document)
-    }
-
-    /// Whether the host neither fails nor takes turns.
-    fn is_well(&self) -> bool {
-        self.noted.is_well(self.asks_document)
-    }
-
-    /// How far it may go. A post is made where a document told, so somebody replied.
-    fn limits(&self) -> Limits {
-        Limits {
-            most: MOST_REPLY,
-            whole: if self.noted.has_answered || !self.asks_document {
-                KNOWN_TIME
-            } else {
-                UNKNOWN_TIME
-            },
-            is_by_rate: false,
-        }
-    }
-
-    /// The exchange at its place, for the message to a host that has this place among those of its round.
-    fn seated(
-        &self,
-        alloc: Global,
-        to: &str,
-        turn: u32,
-        found: (Option<Lookup>, Addresses),
-        now: u64,
-    ) -> Result<Box<Seat>, ExchangeFault> {
-        let (lookup, addresses) = found;
-        let host = String::from_str(alloc, self.host)?;
-        let (host, to) = and(host, String::from_str(alloc, to))?;
-        let request = self.request.copy()?;
-        let flight = Flight::new(request, self.limits(), now, lookup, addresses);
-        let seat = Seat {
-            host,
-            to,
-            turn,
-            flight,
-            standing: self.standing(),
-            asks_document: self.asks_document,
-            has_answered: self.noted.has_answered,
-        };
-        match Box::new(alloc, seat) {
-            Ok(seat) => Ok(seat),
-            Err(_) => Err(ExchangeFault::NoMemory),
-        }
     }
 }
 
@@ -182,6 +91,7 @@ impl Table {
             piece,
             notes: Vec::new(alloc),
             has_replied: false,
+            is_document: false,
             replier: None,
             awaited: None,
             ended: 0,
@@ -203,6 +113,7 @@ impl Table {
     {
         self.awaited = None;
         self.has_replied = false;
+        self.is_document = asks_document(request);
         let found = self.keeps.take(host, request, now)?;
         self.has_replied = found.is_some();
         if self.has_replied {
@@ -245,22 +156,39 @@ impl Table {
         let to = recipient(&self.replier, host);
         match asked.seated(alloc, to, turn, found, now) {
             Ok(seat) => {
-                let round = self.turns.round();
-                self.hosts.begin(alloc, host, to, place, round, now);
-                if !asked.asks_document {
-                    self.hosts.post(to);
-                }
-                self.seats.put(place, seat);
-                self.awaited = Some(place);
-                self.launch(alloc, set, place, now);
-                self.awaited = asked.is_well().then_some(place);
-                Ok(self.awaited)
+                let start = Start {
+                    place,
+                    round: self.turns.round(),
+                    time: now,
+                };
+                Ok(self.take_seat(alloc, set, asked, seat, start))
             }
             Err(fault) => {
                 self.turns.call_at(now.saturating_add(NO_ROOM));
                 Err(fault)
             }
         }
+    }
+
+    /// Begins the exchange that is asked for, in its seat. Answers the place at which it is waited for.
+    fn take_seat(
+        &mut self,
+        alloc: Global,
+        set: &Set,
+        asked: Asked<'_>,
+        seat: Box<Seat>,
+        start: Start,
+    ) -> Option<usize> {
+        let to = recipient(&self.replier, asked.host);
+        self.hosts.begin(alloc, asked.host, to, start);
+        if !asked.asks_document {
+            self.hosts.post(to, start.time);
+        }
+        self.seats.put(start.place, seat);
+        self.awaited = Some(start.place);
+        self.launch(alloc, set, start.place, start.time);
+        self.awaited = asked.is_well().then_some(start.place);
+        self.awaited
     }
 
     /// Whether an exchange may begin now by what is known of its host: none goes on with it, it is not left alone, and it is the
@@ -314,7 +242,7 @@ impl Table {
         if asked.asks_document && !self.may_ask(asked.noted, now) {
             return None;
         }
-        let place = self.place_for(alloc, set, standing, asked.is_well(), now)?;
+        let place = self.place_for(alloc, set, asked, now)?;
         let found = self.names.find(rt, alloc, asked.host, most, now)?;
         Some((place, found))
     }
@@ -333,20 +261,17 @@ impl Table {
     }
 
     /// A place for an exchange, for which another's may be cut. None where there is none, or where it is the turn of others.
-    fn place_for(
-        &mut self,
-        alloc: Global,
-        set: &Set,
-        standing: Standing,
-        is_well: bool,
-        now: u64,
-    ) -> Option<usize> {
+    fn place_for(&mut self, alloc: Global, set: &Set, asked: Asked<'_>, now: u64) -> Option<usize> {
+        let (standing, is_well) = (asked.standing(), asked.is_well());
         let (round, message) = (self.turns.round(), self.turns.messages());
         if !self.placing.is_turn(standing, round, message) {
             return None;
         }
         let may_cut = is_well && now.saturating_sub(self.ended) >= LEAST_TIME;
-        match self.seats.room(standing, is_well, may_cut, now) {
+        match self
+            .seats
+            .room(standing, is_well, asked.asks_document, may_cut, now)
+        {
             Room::Free(place) => Some(place),
             Room::Cut(place) => {
                 let ended = self.ended;
@@ -372,7 +297,7 @@ impl Table {
             return;
         }
         self.hosts.put_off_document(namer.as_str(), named, until);
-        if self.keeps.is_crowded() && !self.hosts.is_posted(namer.as_str()) {
+        if self.keeps.is_crowded() && !self.hosts.is_posted(namer.as_str(), now) {
             let kept = self.keeps.documents(now);
             let is_long = until.saturating_sub(now) >= LONG_WAIT
                 || self.hosts.has_kept(namer.as_str(), LONG_WAIT, now);
@@ -381,7 +306,7 @@ impl Table {
                 let soon = now.saturating_add(SOON);
                 self.keeps.forget_documents(namer.as_str());
                 self.hosts.forget_document(namer.as_str());
-                self.hosts.lose_document(namer.as_str(), soon);
+                self.hosts.lose_document(namer.as_str(), soon, now);
             }
         }
     }
@@ -393,7 +318,7 @@ impl Table {
         let kept = self.keeps.documents(now);
         let (round, message) = (self.turns.round(), self.turns.messages());
         let is_turn = self.placing.is_turn(standing, round, message);
-        let goes_on = noted.is_posted() || self.replier.is_some();
+        let goes_on = noted.is_posted(now) || self.replier.is_some();
         let has_room = self.seats.may_ask(standing, goes_on, kept);
         if is_turn && !has_room {
             self.placing.refuse(standing, message);
@@ -474,17 +399,11 @@ impl Table {
                 self.hosts
                     .reply(alloc, host.as_str(), to.as_str(), asks_document, now);
                 self.names.keep(alloc, host.as_str(), addresses, now);
-                let until = kept_until(now, request.as_slice());
-                self.hosts.keep(host.as_str(), asks_document, until);
-                if let Ok(Some((host, until))) = self.keeps.put(host, request, reply, now) {
-                    self.hosts.lose_document(host.as_str(), until);
-                }
+                self.keep(host, request, reply, asks_document, now);
             }
             Err(ExchangeFault::NoMemory) => {
-                let soon = now.saturating_add(NO_ROOM);
                 self.hosts.end(alloc, host.as_str());
-                self.hosts.rest(alloc, host.as_str(), soon);
-                self.turns.call_at(soon);
+                self.rest(alloc, host.as_str(), now);
             }
             Err(ExchangeFault::Failed) => {
                 self.hosts.end(alloc, host.as_str());
@@ -493,6 +412,23 @@ impl Table {
                 self.hosts.miss(host.as_str(), to.as_str(), turn, now);
             }
         }
+    }
+
+    /// Keeps the reply of a host to these bytes, a document or another. Where a document makes room for it, that is noted of the
+    /// document's host.
+    fn keep(&mut self, host: String, request: Bytes, reply: Bytes, is_document: bool, now: u64) {
+        let until = kept_until(now, request.as_slice());
+        self.hosts.keep(host.as_str(), is_document, until);
+        if let Ok(Some((host, until))) = self.keeps.put(host, request, reply, now) {
+            self.hosts.lose_document(host.as_str(), until, now);
+        }
+    }
+
+    /// Leaves a host alone for a second, though it did not fail. A round follows then.
+    fn rest(&mut self, alloc: Global, host: &str, now: u64) {
+        let soon = now.saturating_add(NO_ROOM);
+        self.hosts.rest(alloc, host, soon);
+        self.turns.call_at(soon);
     }
 
     /// Forgets the documents of a host.
@@ -531,12 +467,15 @@ impl Table {
         let replier = self.replier.take();
         if settles {
             self.turns.call();
-            self.succeed(alloc, host);
+            self.succeed(alloc, host, now);
             if let Some(replier) = &replier {
                 let note = self.hosts.reach(alloc, replier.as_str());
                 self.note(note);
             }
         } else if self.has_replied {
+            if !self.is_document {
+                self.hosts.take_back(host);
+            }
             self.fail(alloc, host, true, now);
             self.hosts.pass(host, self.turns.round(), true);
         } else {
@@ -548,10 +487,10 @@ impl Table {
 
     /// Notes that a message to a host was settled. Where replies are crowded, its document makes room for others, once no reply
     /// to another message to that host waits for it.
-    fn succeed(&mut self, alloc: Global, host: &str) {
+    fn succeed(&mut self, alloc: Global, host: &str, now: u64) {
         let note = self.hosts.settle(alloc, host);
         self.note(note);
-        if self.keeps.is_crowded() && !self.hosts.is_posted(host) {
+        if self.keeps.is_crowded() && !self.hosts.is_posted(host, now) {
             self.forget_documents(host);
         }
     }

@@ -1,5 +1,5 @@
 -- What a request's head announces of its body (RFC 9112 section 6.3, RFC 9110 section 10.1.1).
-use Rattle.std.specs.Prelude.{◌≡◌, ℕ, Bool, true, false, not, ◌&&◌, ◌||◌, ◌==◌, List, [], ◌∷◌, length, map, take, drop, codes, if◌then◌else◌, Option, Some, None, option_map}
+use Rattle.std.specs.Prelude.{◌≡◌, ℕ, Bool, true, false, not, ◌&&◌, ◌==◌, List, [], ◌∷◌, length, map, take, drop, codes, if◌then◌else◌, Option, Some, None, option_map}
 use Rattle.std.specs.Char.{to_ascii_lowercase}
 use Rattle.std.specs.List.{list_all, list_any, slice_split}
 use Rattle.std.specs.Result.{result_ok}
@@ -16,6 +16,10 @@ use Rattle.ocm_http_heads.specs.declared.fields.Head.TheVariants.{Request, Reply
 use Rattle.ocm_http_heads.specs.declared.lengths.Length.{Length}
 use Rattle.ocm_http_heads.specs.declared.lengths.Length.TheVariants.{Sized, Chunked, ToEnd}
 use Rattle.ocm_net_lines.specs.declared.bodies.Announced.{Announced}
+use Rattle.ocm_http.specs.declared.fronts.Front.{Front}
+use Rattle.ocm_http.specs.declared.fronts.Front.TheVariants as fronts
+use Rattle.ocm_net_lines.specs.declared.bodies.Beginning.{Beginning}
+use Rattle.ocm_net_lines.specs.declared.bodies.Beginning.TheVariants as begins
 
 -- whether there is a body
 abbrev pub has_body : Length → Bool
@@ -68,3 +72,15 @@ AnnouncesTo Unfinished bytes told = told ≡ None
 -- what the head at the front announces
 abbrev pub Announces : List ℕ → Option Announced → Type 0
 Announces bytes told = AnnouncesTo (found of_head bytes) bytes told
+
+-- what is announced where a request begins so
+abbrev pub announced_in : Beginning → Option Announced
+announced_in (begins.Whole head announced) = Some announced
+announced_in begins.Refused = None
+announced_in (begins.Unfinished look) = None
+
+-- what stands at the front where a request begins so
+abbrev pub front_in : Beginning → Front
+front_in (begins.Whole head announced) = fronts.Whole head
+front_in begins.Refused = fronts.Refused
+front_in (begins.Unfinished look) = fronts.Unfinished look

@@ -1,16 +1,15 @@
 //! What a request's head announces of its body.
-ghost use Rattle.std.specs.Prelude.{◌≡◌, ◌≤◌, IfOk, map};
+ghost use Rattle.std.specs.Prelude.{◌≡◌, Some, IfOk, map};
 ghost use Rattle.std.specs.Char.{to_ascii_lowercase};
 ghost use Rattle.std.specs.List.{list_any, slice_split};
 ghost use Rattle.ocm_http_heads.specs.Heads.{is_comma, is_same};
+ghost use Rattle.ocm_http.specs.Fronts.{IsFrontOf};
+ghost use Rattle.ocm_http.specs.declared.fronts.Front.TheVariants as fronts;
 ghost use Rattle.ocm_net_lines.specs.Bodies as bodies;
 
 use ocm_base::NoMemory;
-use ocm_http_heads::{
-    Field, Found, Head, Length, Look, are_ows, before_feed, blanks, length_of_request,
-    read_request, skip_ows,
-};
-use ocm_limits::MOST_BODY_BYTES;
+use ocm_http::{Field, Front, Head, ReadHead, read_front};
+use ocm_http_heads::{Length, Look, are_ows, skip_ows};
 use std::alloc::Global;
 
 /// What a head announces of the body behind it.
@@ -56,39 +55,6 @@ fn is_word(text: &[u8], word: &str) -> bool
     text.eq_ignore_ascii_case(word.as_bytes())
 }
 
-/// Whether a line begins with this word, in any case.
-fn begins_as(line: &[u8], word: &[u8]) -> bool {
-    match line.get(..word.len()) {
-        Some(front) => front.eq_ignore_ascii_case(word),
-        None => false,
-    }
-}
-
-/// Whether a line may be a field that tells of a body. Most lines are told by their first byte.
-fn may_tell(line: &[u8]) -> bool {
-    match line {
-        [b'c' | b'C', ..] => begins_as(line, b"content-length"),
-        [b't' | b'T', ..] => begins_as(line, b"transfer-encoding"),
-        _ => false,
-    }
-}
-
-/// Whether a line of a head may be a field that tells of a body (RFC 9112 section 6.3). Where none is, a request ends
-/// with its head, also one that is refused.
-pub fn may_announce(head: &[u8]) -> bool {
-    let mut rest = head;
-    for _ in 0..=head.len() {
-        if may_tell(rest) {
-            return true;
-        }
-        let Some(next) = rest.get(before_feed(rest).saturating_add(1)..) else {
-            return false;
-        };
-        rest = next;
-    }
-    true
-}
-
 /// Whether a member of a list says `100-continue`, in any case, with blanks around.
 fn is_continue(member: &[u8]) -> bool
     ensures { result ≡ bodies.is_continue member.now }
@@ -117,30 +83,53 @@ fn any_expecting(fields: &[Field]) -> bool
     fields.iter().any(is_expecting)
 }
 
-/// What a head of this text with these fields announces, which is all that came or isn't.
-fn announced_by(text: &[u8], fields: &[Field], is_all: bool) -> Option<Announced>
-    ensures { result ≡ bodies.announced_by text.now fields.now is_all }
+/// Whether the client waits to be told to send a body of this length, by a head of this text with these fields that is all
+/// that came or isn't.
+fn is_awaited(text: &[u8], fields: &[Field], is_all: bool, length: Length) -> bool
+    ensures { result ≡ bodies.is_awaited text.now fields.now is_all length }
 {
-    let length = length_of_request(MOST_BODY_BYTES, fields).ok()?;
-    let is_awaited = is_all && has_body(length) && any_expecting(fields) && ends_with_one(text);
-    Some(Announced { length, is_awaited })
+    is_all && has_body(length) && any_expecting(fields) && ends_with_one(text)
 }
 
-/// What the head at the front announces, with the CR and LF before it. None where no whole head is there, or a request
-/// with it is refused, whatever its body is.
-pub fn body_announced(alloc: Global, bytes: &[u8]) -> Result<Option<Announced>, NoMemory>
-    ensures { IfOk result (bodies.Announces bytes.now) }
+/// What a whole head announces that stands at the front of these bytes.
+fn announced_by(head: &ReadHead, bytes: &[u8]) -> Announced
+    requires { IsFrontOf bytes.now (fronts.Whole head.now) }
+    ensures { bodies.Announces bytes.now (Some result) }
 {
-    let mut search = Look::of_head();
-    let Found::Whole(len) = search.look(bytes) else {
-        return Ok(None);
+    let Head::Request { fields, .. } = head.head() else {
+        unreachable!()
     };
-    let head = &bytes[..len];
-    let text = &head[blanks(head)..];
-    match read_request(alloc, text)? {
-        Some(Head::Request { fields, .. }) => {
-            Ok(announced_by(text, fields.as_slice(), len == bytes.len()))
+    let whole = &bytes[..head.size()];
+    let text = &whole[head.skipped()..];
+    let length = head.body();
+    let is_all = whole.len() == bytes.len();
+    let is_awaited = is_awaited(text, fields.as_slice(), is_all, length);
+    Announced { length, is_awaited }
+}
+
+/// What a request begins with.
+#[derive(Drop)]
+pub enum Beginning {
+    /// A whole head, and what it announces.
+    Whole(ReadHead, Announced),
+    /// What is refused, whatever follows it.
+    Refused,
+    /// No whole head yet, and no fault. The look for its end goes on behind these bytes.
+    Unfinished(Look),
+}
+
+/// Reads the head at the front, with the CR and LF before it, and tells what it announces. That is nothing where no whole
+/// head is there, or a request with it is refused, whatever its body is.
+pub fn body_announced(alloc: Global, bytes: &[u8]) -> Result<Beginning, NoMemory>
+    ensures announces { IfOk result (λ b. bodies.Announces bytes.now (bodies.announced_in b)) }
+    ensures front { IfOk result (λ b. IsFrontOf bytes.now (bodies.front_in b)) }
+{
+    match read_front(alloc, bytes)? {
+        Front::Whole(head) => {
+            let announced = announced_by(&head, bytes);
+            Ok(Beginning::Whole(head, announced))
         }
-        Some(Head::Reply { .. }) | None => Ok(None),
+        Front::Refused => Ok(Beginning::Refused),
+        Front::Unfinished(look) => Ok(Beginning::Unfinished(look)),
     }
 }

@@ -2,6 +2,7 @@
 ghost use Rattle.std.specs.Prelude.{◌≤◌, IfSome, length};
 
 use crate::wholes::RequestLook;
+use ocm_http::ReadHead;
 use ocm_http_heads::blanks;
 use std::alloc::Global;
 
@@ -62,9 +63,9 @@ impl Incoming {
         }
     }
 
-    /// How many bytes it holds.
+    /// How many bytes it holds, with the memory of a head that was read.
     pub fn len(&self) -> usize {
-        self.ahead.len()
+        self.ahead.len().saturating_add(self.look.kept())
     }
 
     /// What else may come.
@@ -120,6 +121,17 @@ impl Incoming {
     pub fn find_message(&mut self) -> bool {
         self.whole = self.look.message_end(self.alloc, &self.ahead).unwrap_or(0);
         self.whole > 0
+    }
+
+    /// Takes the head of the message that is here, where it was read and nothing of the message was handed on. What is read
+    /// next stands behind it.
+    pub fn take_head(&mut self) -> Option<ReadHead> {
+        if self.used > 0 || self.whole == 0 {
+            return None;
+        }
+        let head = self.look.take_head()?;
+        self.used = head.size();
+        Some(head)
     }
 
     /// Whether the client waits to be told to send the body that it announced. True once for a message.

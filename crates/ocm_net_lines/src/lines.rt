@@ -5,6 +5,7 @@ use crate::incoming::{Incoming, Peer};
 use crate::outgoing::Outgoing;
 use crate::states::{State, Step, Told};
 use crate::times::Times;
+use ocm_http::ReadHead;
 use ocm_net_waits::{Bell, millis, read_now, wait_for_bytes, write_now};
 use std::alloc::Global;
 use std::net::{Shutdown, TcpStream};
@@ -364,6 +365,13 @@ impl<'a, R: time::Clock> ClientLine<'a, R> {
         self.fill(&mut piece);
         self.piece = piece;
         true
+    }
+
+    /// Takes the head of the message that is here, where it was read ahead, and begins to serve it. What is read next stands
+    /// behind that head.
+    pub fn take_head(&mut self) -> Option<ReadHead> {
+        self.state = State::Served;
+        self.incoming.take_head()
     }
 
     /// What came ahead, or else what comes. None where the line failed or was too slow.

@@ -1,10 +1,11 @@
-//! Where a request ends, or that it has a fault, as soon as its bytes show it. The reader of messages goes over the same
-//! bytes with the same functions of `ocm_http_heads`, so that it answers at once to what is handed over. A wrong answer would
-//! cost time and no meaning: of a request that was handed over too early the rest is read by waiting, and one that is
-//! held for too long is dropped.
+//! Where a request ends, or that it has a fault, as soon as its bytes show it. Its head is read here, and handed on to the
+//! reader of messages, which goes over the bytes behind it with the same functions of `ocm_http_heads`, so that it answers at
+//! once to what is handed over. A wrong answer would cost time and no meaning: of a request that was handed over too early
+//! the rest is read by waiting, and one that is held for too long is dropped.
 ghost use Rattle.std.specs.Prelude.{◌≡◌, ◌≤◌, IfSome, false, length};
 
-use crate::bodies::{Announced, body_announced, may_announce};
+use crate::bodies::{Announced, Beginning, body_announced};
+use ocm_http::{Head, ReadHead};
 use ocm_http_heads::{ChunkLine, Found, Length, Look as Search, read_chunk_line};
 use ocm_limits::MOST_BODY_BYTES;
 use std::alloc::Global;
@@ -12,10 +13,23 @@ use std::alloc::Global;
 /// How many bytes a chunk line has at most, its CR LF among them.
 const MOST_LINE: usize = 256;
 
+/// About how many bytes of memory each field of a head takes beside its own.
+const FIELD: usize = 128;
+
+/// About how many bytes of memory a head takes.
+fn memory_of(head: &ReadHead) -> usize {
+    let fields = match head.head() {
+        Head::Request { fields, .. } | Head::Reply { fields, .. } => fields.len(),
+    };
+    head.size().saturating_add(fields.saturating_mul(FIELD))
+}
+
 /// What comes next in a request.
 #[derive(Clone, Copy)]
 enum Part {
-    /// Its head, or the rest of it, with the CR and LF before it (RFC 9112 section 2.2).
+    /// Its head, with the CR and LF before it (RFC 9112 section 2.2). Nothing of it was looked at.
+    Start,
+    /// The rest of its head.
     Head(Search),
     /// The line ahead of a chunk (RFC 9112 section 7.1).
     Chunk,
@@ -30,9 +44,10 @@ enum Part {
 }
 
 /// How far a request was looked at, of which more bytes may come.
-#[derive(Clone, Copy)]
 pub struct RequestLook {
     part: Part,
+    /// The head, once it was read, until it is taken.
+    head: Option<ReadHead>,
     /// Where that part begins, which may lie behind the bytes that are here.
     place: usize,
     /// How many bytes of the body the chunks so far have.
@@ -41,11 +56,24 @@ pub struct RequestLook {
     is_awaited: bool,
 }
 
+impl Drop for RequestLook {
+    fn drop(self) {
+        let RequestLook {
+            part: _,
+            head: _,
+            place: _,
+            body: _,
+            is_awaited: _,
+        } = self;
+    }
+}
+
 impl RequestLook {
     /// A request of which nothing was looked at.
     pub fn new() -> RequestLook {
         RequestLook {
-            part: Part::Head(Search::of_head()),
+            part: Part::Start,
+            head: None,
             place: 0,
             body: 0,
             is_awaited: false,
@@ -62,10 +90,23 @@ impl RequestLook {
         is_awaited
     }
 
+    /// Takes the head that was read, where it wasn't taken.
+    pub fn take_head(&mut self) -> Option<ReadHead> {
+        self.head.take()
+    }
+
+    /// About how many bytes of memory the head takes that is kept here.
+    pub fn kept(&self) -> usize {
+        match &self.head {
+            Some(head) => memory_of(head),
+            None => 0,
+        }
+    }
+
     /// How many bytes the first request has, where it is whole, or all of these, where it has a fault so far. Those that
-    /// were looked at before are the front of these. A head that tells of a body is read once, when it is whole, and each
-    /// other byte is looked at once, those of a chunk line that isn't whole aside. Where there is no memory to read a head, all of these are
-    /// handed over too: the reader has an answer to that.
+    /// were looked at before are the front of these. A head is read when it is whole. Where it came in pieces, its bytes were
+    /// looked at before, and are looked at once more. Each other byte is looked at once, those of a chunk line that isn't whole
+    /// aside. Where there is no memory to read a head, all of these are handed over too: the reader has an answer to that.
     pub fn message_end(&mut self, alloc: Global, bytes: &[u8]) -> Option<usize>
         ensures { IfSome result (λ n. n ≤ length bytes.now) }
     {
@@ -85,6 +126,7 @@ impl RequestLook {
     fn step(&mut self, alloc: Global, bytes: &[u8]) -> bool {
         let rest = bytes.get(self.place..).unwrap_or_default();
         match self.part {
+            Part::Start => !bytes.is_empty() && self.read_head(alloc, bytes),
             Part::Head(search) => self.pass_head(alloc, search, bytes, rest),
             Part::Chunk => self.pass_chunk(rest),
             Part::Break => self.pass_break(rest),
@@ -104,32 +146,40 @@ impl RequestLook {
         match search.look(rest) {
             Found::Unfinished => {
                 self.go(rest.len(), Part::Head(search));
+                false
+            }
+            Found::TooLong(_) => {
+                self.part = Part::Fault;
+                true
+            }
+            Found::Whole(_) => self.read_head(alloc, bytes),
+        }
+    }
+
+    /// Reads the head at the front of all bytes, and passes over it. Answers whether it was all here.
+    fn read_head(&mut self, alloc: Global, bytes: &[u8]) -> bool {
+        match body_announced(alloc, bytes) {
+            Ok(Beginning::Whole(head, announced)) => {
+                self.place = head.size();
+                self.head = Some(head);
+                self.pass_body(announced);
+            }
+            Ok(Beginning::Unfinished(search)) => {
+                self.place = bytes.len();
+                self.part = Part::Head(search);
                 return false;
             }
-            Found::TooLong(_) => self.part = Part::Fault,
-            Found::Whole(len) => self.end_head(alloc, len, bytes),
+            Ok(Beginning::Refused) | Err(_) => self.part = Part::Fault,
         }
         true
     }
 
-    /// Ends the head, of whose rest there are so many bytes. One that tells of no body is not read here.
-    fn end_head(&mut self, alloc: Global, len: usize, bytes: &[u8]) {
-        let head = bytes.get(..self.place.saturating_add(len)).unwrap_or(bytes);
-        if !may_announce(head) {
-            return self.go(len, Part::End);
-        }
-        match body_announced(alloc, bytes) {
-            Ok(Some(told)) => self.pass_body(len, told),
-            Ok(None) | Err(_) => self.part = Part::Fault,
-        }
-    }
-
-    /// Passes over the rest of a head, of so many bytes, and over a body that doesn't come in chunks.
-    fn pass_body(&mut self, len: usize, told: Announced) {
-        self.is_awaited = told.is_awaited;
-        match told.length {
-            Length::Sized(size) => self.go(len.saturating_add(size as usize), Part::End),
-            Length::Chunked => self.go(len, Part::Chunk),
+    /// Passes over a body that doesn't come in chunks.
+    fn pass_body(&mut self, announced: Announced) {
+        self.is_awaited = announced.is_awaited;
+        match announced.length {
+            Length::Sized(size) => self.go(size as usize, Part::End),
+            Length::Chunked => self.part = Part::Chunk,
             Length::ToEnd => self.part = Part::Fault,
         }
     }

@@ -42,7 +42,8 @@ impl Order {
     }
 }
 
-/// The orders of those that take turns.
+/// The orders of those that take turns: hosts that fail, and hosts whose documents were put off. A message's place in a round is
+/// how many were tried before it.
 #[derive(Clone, Copy)]
 pub struct Orders {
     failing: Order,

@@ -2,7 +2,7 @@
 
 use crate::end_points::Share;
 use crate::failures::FIRST_PAUSE;
-use crate::noted::Noted;
+use crate::noted::{Noted, Start};
 use std::alloc::Global;
 use std::collections::HashMap;
 use std::fmt;
@@ -10,7 +10,8 @@ use std::fmt;
 /// How many hosts are known at most.
 const MOST_HOSTS: usize = 65_536;
 
-/// The hosts that are known.
+/// The hosts that are known, each by its name, with its port where it has one. Where there is no memory to note a new one, it
+/// stays unknown.
 pub struct Hosts {
     noted: HashMap<String, Noted>,
     /// Until when none of them may be forgotten, in milliseconds.
@@ -32,7 +33,7 @@ impl Hosts {
         }
     }
 
-    /// What is known of a host.
+    /// What is known of a host. Where it is not known, it stands as one that was never asked.
     pub fn at(&self, host: &str) -> Noted {
         match self.noted.get(host) {
             Some(noted) => *noted,
@@ -96,22 +97,14 @@ impl Hosts {
         None
     }
 
-    /// Notes that an exchange with a host begins at a place in a round, for a message to that other one.
-    pub fn begin(
-        &mut self,
-        alloc: Global,
-        host: &str,
-        to: &str,
-        place: usize,
-        round: u64,
-        now: u64,
-    ) {
+    /// Notes that an exchange with a host begins, for a message to that other one.
+    pub fn begin(&mut self, alloc: Global, host: &str, to: &str, start: Start) {
         let share = self.share_of(to);
         let mut noted = self.at(host);
         if to != host {
             noted.end_point.name();
         }
-        noted.begin(place, share, round, now);
+        noted.begin(start, share);
         self.put(alloc, host, noted);
     }
 
@@ -205,7 +198,7 @@ impl Hosts {
         }
     }
 
-    /// The place of the next message to a host among those of a round, where it may be tried.
+    /// The place of the next message to a host among those of a round, counted from 0. None where those behind it go first.
     pub fn turn(&mut self, host: &str, round: u64) -> Option<u32> {
         match self.noted.get_mut(host) {
             Some(noted) => noted.messages.turn(round),
@@ -222,7 +215,8 @@ impl Hosts {
     }
 
     /// Notes that an exchange with a host failed for the message to that other one that has this place among those of its round:
-    /// those behind it go first, and where this is the end point of several hosts, those of the others.
+    /// those behind it go first, and where this is the end point of several hosts, those of the others. It comes behind `fail`,
+    /// whose pause counts as time that messages to that other one had.
     pub fn miss(&mut self, host: &str, to: &str, place: u32, now: u64) {
         let share = match self.noted.get_mut(host) {
             Some(noted) => noted.charge(false, false, now),
@@ -236,13 +230,13 @@ impl Hosts {
 
     /// Notes that a message to a host is posted now, to it or to its end point: a delivery to it goes on, which needs its
     /// document still.
-    pub fn post(&mut self, host: &str) {
+    pub fn post(&mut self, host: &str, now: u64) {
         if let Some(noted) = self.noted.get_mut(host) {
-            noted.post();
+            noted.post(now);
         }
     }
 
-    /// Notes that a message to a host was posted, but got no reply.
+    /// Notes that a message to a host was posted, but got no reply, or one of no use.
     pub fn take_back(&mut self, host: &str) {
         if let Some(noted) = self.noted.get_mut(host) {
             noted.take_back();
@@ -250,9 +244,9 @@ impl Hosts {
     }
 
     /// Whether a message to a host was posted whose reply is awaited or kept.
-    pub fn is_posted(&self, host: &str) -> bool {
+    pub fn is_posted(&self, host: &str, now: u64) -> bool {
         match self.noted.get(host) {
-            Some(noted) => noted.is_posted(),
+            Some(noted) => noted.is_posted(now),
             None => false,
         }
     }
@@ -273,14 +267,14 @@ impl Hosts {
     }
 
     /// Notes that the document of a host is kept no longer: one that was of no use yet is not asked for again before then.
-    pub fn lose_document(&mut self, host: &str, until: u64) {
+    pub fn lose_document(&mut self, host: &str, until: u64, now: u64) {
         if let Some(noted) = self.noted.get_mut(host) {
-            noted.lose_document(until);
+            noted.lose_document(until, now);
         }
     }
 
     /// Notes that a host failed: it is left alone for a while. Where its reply was of no use it is only not asked for its
-    /// document, since other hosts' documents may name it. Gives what is to be told of it.
+    /// document, since other hosts' documents may name it. Gives what is to be told of it, if anything.
     pub fn fail(
         &mut self,
         alloc: Global,
@@ -298,7 +292,8 @@ impl Hosts {
         }
     }
 
-    /// Notes that a host was of use to a message for another one, so that it can be reached. Gives what is to be told of it.
+    /// Notes that a host was of use to a message for another one, so that it can be reached. Gives what is to be told of it, if
+    /// anything.
     pub fn reach(&mut self, alloc: Global, host: &str) -> Option<HostNote> {
         if self.noted.get(host)?.is_useless() {
             None
@@ -307,14 +302,14 @@ impl Hosts {
         }
     }
 
-    /// Notes that a message to a host was settled. Gives what is to be told of it.
+    /// Notes that a message to a host was settled. Gives what is to be told of it, if anything.
     pub fn settle(&mut self, alloc: Global, host: &str) -> Option<HostNote> {
         let noted = self.noted.get_mut(host)?;
         noted.take_back();
         self.succeed(alloc, host)
     }
 
-    /// Notes that a host was of use. Gives what is to be told of it.
+    /// Notes that a host was of use. Gives what is to be told of it, if anything.
     fn succeed(&mut self, alloc: Global, host: &str) -> Option<HostNote> {
         let noted = self.noted.get_mut(host)?;
         if noted.succeed() {
@@ -325,7 +320,8 @@ impl Hosts {
     }
 }
 
-/// What an administrator is told of a host.
+/// What an administrator is told of a host: that nothing can be delivered to it, or that it is reached again. Its text is one
+/// line without its end.
 pub struct HostNote {
     host: String,
     /// How many messages wait for it.
