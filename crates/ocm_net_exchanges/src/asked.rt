@@ -89,6 +89,7 @@ impl<'a> Asked<'a> {
             turn,
             flight,
             standing: self.standing(),
+            is_well: self.is_well(),
             asks_document: self.asks_document,
             has_answered: self.noted.has_answered,
         };

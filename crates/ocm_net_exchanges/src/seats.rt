@@ -17,9 +17,13 @@ const MOST_PUT_OFF: usize = 32;
 /// How many places are free for hosts that neither fail nor were put off.
 const PLACES_FREE: usize = 32;
 
-/// How many more are free where a host is asked for a document that fails or was put off. They are for messages whose documents
-/// are here: else those of hosts that hang would drive out the others without end.
+/// How many more are free before a host is asked for a document that fails or was put off, where such hosts and others that
+/// failed before hold many places. They are for deliveries that go on: else those of hosts that hang would drive out the others
+/// without end.
 const PLACES_TO_GO_ON: usize = 8;
+
+/// How many places are many.
+const MANY: usize = 16;
 
 /// How many documents are kept or asked for at most. So the replies to messages find room beside them, and a document is here
 /// still when its host's message goes on.
@@ -50,6 +54,8 @@ pub struct Seat {
     pub flight: Flight,
     /// How the host stood when it began.
     pub standing: Standing,
+    /// Whether it neither failed nor took turns then.
+    pub is_well: bool,
     /// Whether it is asked for a document.
     pub asks_document: bool,
     /// Whether the host ever replied.
@@ -64,6 +70,7 @@ impl Drop for Seat {
             turn: _,
             flight: _,
             standing: _,
+            is_well: _,
             asks_document: _,
             has_answered: _,
         } = self;
@@ -79,6 +86,7 @@ impl Seat {
             turn,
             flight,
             standing: _,
+            is_well: _,
             asks_document,
             has_answered: _,
         } = self;
@@ -145,11 +153,25 @@ impl Seats {
         asked
     }
 
+    /// How many places hosts have that were not well.
+    fn taken_by_unwell(&self) -> usize {
+        let mut taken = 0usize;
+        for seat in self.seats.iter() {
+            if let Some(seat) = seat {
+                if !seat.is_well {
+                    taken = taken.saturating_add(1);
+                }
+            }
+        }
+        taken
+    }
+
     /// Whether a host that stands so, and is well or isn't, may have a place more, where it is asked for a document or isn't.
     fn may_take(&self, standing: Standing, is_well: bool, asks_document: bool) -> bool {
+        let leaves_some = asks_document && standing != Standing::Free;
         let free = if is_well {
             0
-        } else if asks_document && standing != Standing::Free {
+        } else if leaves_some && self.taken_by_unwell() >= MANY {
             PLACES_FREE + PLACES_TO_GO_ON
         } else {
             PLACES_FREE

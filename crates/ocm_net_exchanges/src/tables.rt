@@ -237,8 +237,7 @@ impl Table {
         if !self.hosts.has_room_for(alloc, asked.host, now) {
             return None;
         }
-        let standing = asked.standing();
-        let most = self.lookups_for(asked.host, standing, now)?;
+        let most = self.lookups_for(asked, now)?;
         if asked.asks_document && !self.may_ask(asked.noted, now) {
             return None;
         }
@@ -264,13 +263,17 @@ impl Table {
     fn place_for(&mut self, alloc: Global, set: &Set, asked: Asked<'_>, now: u64) -> Option<usize> {
         let (standing, is_well) = (asked.standing(), asked.is_well());
         let (round, message) = (self.turns.round(), self.turns.messages());
-        if !self.placing.is_turn(standing, round, message) {
+        let asks_document = asked.asks_document;
+        if !self
+            .placing
+            .is_turn(standing, asks_document, round, message)
+        {
             return None;
         }
         let may_cut = is_well && now.saturating_sub(self.ended) >= LEAST_TIME;
         match self
             .seats
-            .room(standing, is_well, asked.asks_document, may_cut, now)
+            .room(standing, is_well, asks_document, may_cut, now)
         {
             Room::Free(place) => Some(place),
             Room::Cut(place) => {
@@ -280,7 +283,7 @@ impl Table {
                 Some(place)
             }
             Room::Full => {
-                self.placing.refuse(standing, message);
+                self.placing.refuse(standing, asks_document, message);
                 None
             }
         }
@@ -317,24 +320,25 @@ impl Table {
         let standing = noted.standing(true);
         let kept = self.keeps.documents(now);
         let (round, message) = (self.turns.round(), self.turns.messages());
-        let is_turn = self.placing.is_turn(standing, round, message);
+        let is_turn = self.placing.is_turn(standing, true, round, message);
         let goes_on = noted.is_posted(now) || self.replier.is_some();
         let has_room = self.seats.may_ask(standing, goes_on, kept);
         if is_turn && !has_room {
-            self.placing.refuse(standing, message);
+            self.placing.refuse(standing, true, message);
         }
         has_room
     }
 
     /// How many look-ups may go on where one begins for a host. None where there is no room for it, or where it is the turn
     /// of others.
-    fn lookups_for(&mut self, host: &str, standing: Standing, now: u64) -> Option<u64> {
+    fn lookups_for(&mut self, asked: Asked<'_>, now: u64) -> Option<u64> {
+        let (standing, asks_document) = (asked.standing(), asked.asks_document);
         let (round, message) = (self.turns.round(), self.turns.messages());
-        let is_turn = self.naming.is_turn(standing, round, message);
+        let is_turn = self.naming.is_turn(standing, asks_document, round, message);
         let most = if is_turn { most_lookups(standing) } else { 0 };
-        let is_found = self.names.may_find(host, most, now);
+        let is_found = self.names.may_find(asked.host, most, now);
         if is_turn && !is_found {
-            self.naming.refuse(standing, message);
+            self.naming.refuse(standing, asks_document, message);
         }
         is_found.then_some(most)
     }

@@ -42,11 +42,13 @@ impl Order {
     }
 }
 
-/// The orders of those that take turns: hosts that fail, and hosts whose documents were put off. A message's place in a round is
-/// how many were tried before it.
+/// The orders of those that take turns: hosts that fail, those that are asked for a document apart from those to which something
+/// is posted, since there may be room for the latter alone; and hosts whose documents were put off. A message's place in a round
+/// is how many were tried before it.
 #[derive(Clone, Copy)]
 pub struct Orders {
-    failing: Order,
+    documents: Order,
+    posts: Order,
     put_off: Order,
 }
 
@@ -54,31 +56,40 @@ impl Orders {
     /// All may get room.
     pub fn new() -> Orders {
         Orders {
-            failing: Order::new(),
+            documents: Order::new(),
+            posts: Order::new(),
             put_off: Order::new(),
         }
     }
 
-    /// The order of a standing, where it takes turns.
-    fn of(&mut self, standing: Standing) -> Option<&mut Order> {
+    /// The order of a standing, as one that is asked for a document, or for anything else, where it takes turns.
+    fn of(&mut self, standing: Standing, asks_document: bool) -> Option<&mut Order> {
         match standing {
-            Standing::Failing => Some(&mut self.failing),
+            Standing::Failing if asks_document => Some(&mut self.documents),
+            Standing::Failing => Some(&mut self.posts),
             Standing::PutOff => Some(&mut self.put_off),
             Standing::Free => None,
         }
     }
 
-    /// Whether the host of the message at this place of a round may get room, by its standing.
-    pub fn is_turn(&mut self, standing: Standing, round: u64, message: u64) -> bool {
-        match self.of(standing) {
+    /// Whether the host of the message at this place of a round may get room, by its standing as one that is asked for a
+    /// document, or for anything else.
+    pub fn is_turn(
+        &mut self,
+        standing: Standing,
+        asks_document: bool,
+        round: u64,
+        message: u64,
+    ) -> bool {
+        match self.of(standing, asks_document) {
             Some(order) => order.is_turn(round, message),
             None => true,
         }
     }
 
     /// Notes that there was no room for the host of the message at this place, whose turn it was.
-    pub fn refuse(&mut self, standing: Standing, message: u64) {
-        if let Some(order) = self.of(standing) {
+    pub fn refuse(&mut self, standing: Standing, asks_document: bool, message: u64) {
+        if let Some(order) = self.of(standing, asks_document) {
             order.refuse(message);
         }
     }
