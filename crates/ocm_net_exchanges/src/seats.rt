@@ -14,7 +14,7 @@ const MOST_FAILING: usize = 48;
 /// How many places hosts have at most whose documents were put off.
 const MOST_PUT_OFF: usize = 32;
 
-/// How many places are free for hosts that neither fail nor were put off.
+/// How many places are free for hosts that neither fail nor were put off, few others aside.
 const PLACES_FREE: usize = 32;
 
 /// How many more are free before a host is asked for a document that fails or was put off, where such hosts and others that
@@ -24,6 +24,9 @@ const PLACES_TO_GO_ON: usize = 8;
 
 /// How many places are many.
 const MANY: usize = 16;
+
+/// How many places hosts that fail, were put off or failed before may have beside any number of others.
+const FEW: usize = 8;
 
 /// How many documents are kept or asked for at most. So the replies to messages find room beside them, and a document is here
 /// still when its host's message goes on.
@@ -169,9 +172,10 @@ impl Seats {
     /// Whether a host that stands so, and is well or isn't, may have a place more, where it is asked for a document or isn't.
     fn may_take(&self, standing: Standing, is_well: bool, asks_document: bool) -> bool {
         let leaves_some = asks_document && standing != Standing::Free;
-        let free = if is_well {
+        let unwell = self.taken_by_unwell();
+        let free = if is_well || unwell < FEW {
             0
-        } else if leaves_some && self.taken_by_unwell() >= MANY {
+        } else if leaves_some && unwell >= MANY {
             PLACES_FREE + PLACES_TO_GO_ON
         } else {
             PLACES_FREE
