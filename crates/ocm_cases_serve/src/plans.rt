@@ -22,6 +22,7 @@ fn planned(alloc: Global, host: Host, admin: Secret) -> Plan {
     Plan {
         host,
         disk: nothing(alloc),
+        existing: false,
         admin,
         listen: nothing(alloc),
         workers: 1,

@@ -49,9 +49,10 @@ fn told_without_log(alloc: Global, orders: &Orders) -> Option<String> {
     };
     let listen = orders.listen.as_str();
     let key_file = orders.key_file.as_str();
+    let existing = if orders.existing { " existing" } else { "" };
     let workers = orders.workers;
     let connections = orders.connections;
     format!(in alloc;
-        "host {host} disk {disk} {mark} {admin} listen {listen} workers {workers} key file {key_file} connections {connections}"
+        "host {host} disk {disk}{existing} {mark} {admin} listen {listen} workers {workers} key file {key_file} connections {connections}"
     ).ok()
 }

@@ -25,6 +25,7 @@ written the standard output.
 Options of serve; host, disk and one of the two for the key have to be there:
   --host HOST            the server's name, with :PORT where that is not 80
   --disk FILE            the journal's file
+  --existing             refuse to start if that file is missing
   --admin KEY            the administrator's key
   --admin-file FILE      the file that holds it, in place of --admin
   --listen ADDRESS       where to listen; default 127.0.0.1:8080

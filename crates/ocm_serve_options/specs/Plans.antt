@@ -1,8 +1,9 @@
 -- The options of `serve`, and what they order.
 use Rattle.std.specs.Prelude.{◌≡◌, ℕ, Bool, true, false, ◌&&◌, nat_le, List, [], ◌∷◌, Option, Some, None, option_and_then, option_map, Result, Ok, Err, String, string_bytes, codes, bytes_eq, map, if◌then◌else◌}
+use Rattle.std.specs.Option.{option_map_or}
 use Rattle.std.specs.Result.{result_ok}
 use Rattle.std.specs.declared.alloc.Global.{Global}
-use Rattle.clap.specs.declared.builder.action.ArgAction.TheVariants.{Set}
+use Rattle.clap.specs.declared.builder.action.ArgAction.TheVariants.{Set, SetTrue}
 use Rattle.clap.specs.Words.{App, Rule, Row, Text, Kinds, new_app, new_rule, with_rule, matches_of, fault_of, first_of}
 use Rattle.clap.specs.Simple.{on_top}
 use Rattle.ocm_texts.specs.Decimal.{decimal_of}
@@ -29,12 +30,16 @@ needed name = record (option name) { required = true }
 abbrev pub optional : Text → Text → Rule
 optional name value = record (option name) { defaults = value ∷ [] }
 
--- the command: nine options, each of one value, and nothing else
+-- an option without a value
+abbrev pub flag : Text → Rule
+flag name = record (new_rule name) { long = Some name; action = Some SetTrue }
+
+-- the command: ten options, nine of one value each and a flag, and nothing else
 abbrev pub serve : App
-serve = with_rule (with_rule (with_rule (with_rule (with_rule (with_rule (with_rule (with_rule (with_rule (on_top (λ s. record s { disable_help_flag = true }) (new_app (codes "serve")))
+serve = with_rule (with_rule (with_rule (with_rule (with_rule (with_rule (with_rule (with_rule (with_rule (with_rule (on_top (λ s. record s { disable_help_flag = true }) (new_app (codes "serve")))
     (needed (codes "host"))) (needed (codes "disk"))) (option (codes "admin"))) (option (codes "admin-file")))
     (optional (codes "listen") (codes "127.0.0.1:8080"))) (optional (codes "workers") (codes "4")))
-    (optional (codes "key-file") (codes "/dev/urandom"))) (optional (codes "connections") (codes "0"))) (option (codes "log"))
+    (optional (codes "key-file") (codes "/dev/urandom"))) (optional (codes "connections") (codes "0"))) (option (codes "log"))) (flag (codes "existing"))
 
 abbrev pub texts : List (String Global) → List Text
 texts = map string_bytes
@@ -59,6 +64,10 @@ workers_of n = if nat_le 1 n && nat_le n most_workers then Some n else None
 -- the number that an option is
 abbrev pub number_at : Text → List Row → Option ℕ
 number_at name rows = first_of name rows >>= decimal_of
+
+-- whether a flag is there: its value is then `true`, and else `false`
+abbrev pub flag_at : Text → List Row → Bool
+flag_at name rows = option_map_or (λ text. bytes_eq text (codes "true")) (first_of name rows) false
 
 -- the workers, and the connections of each
 unfoldable pub numbers_at : List Row → Option Numbers
@@ -98,13 +107,13 @@ names_at rows = do
   admin ← admin_at rows
   Some (record { host = host; admin = admin })
 
--- the texts that are taken as they are
+-- what is taken as it is
 unfoldable pub places_at : List Row → Option Places
 places_at rows = do
   disk ← first_of (codes "disk") rows
   listen ← first_of (codes "listen") rows
   key_file ← first_of (codes "key-file") rows
-  Some (record { disk = disk; listen = listen; key_file = key_file; log = first_of (codes "log") rows })
+  Some (record { disk = disk; listen = listen; key_file = key_file; log = first_of (codes "log") rows; existing = flag_at (codes "existing") rows })
 
 -- the orders by the values of the options
 unfoldable pub orders_by : List Row → Option Orders
@@ -112,7 +121,7 @@ orders_by rows = do
   numbers ← numbers_at rows
   names ← names_at rows
   places ← places_at rows
-  Some (record { host = names.host; disk = places.disk; admin = names.admin; listen = places.listen; workers = numbers.workers; key_file = places.key_file; connections = numbers.connections; log = places.log })
+  Some (record { host = names.host; disk = places.disk; admin = names.admin; listen = places.listen; workers = numbers.workers; key_file = places.key_file; connections = numbers.connections; log = places.log; existing = places.existing })
 
 -- the orders by the words
 unfoldable pub orders_of : List Text → Option Orders
@@ -120,7 +129,7 @@ orders_of words = if asks_serve words && is_none (fault_of serve words) then ord
 
 -- the plan of orders, with the administrator's key
 abbrev pub plan_with : Orders → List ℕ → Plan
-plan_with orders admin = record { host = orders.host; disk = orders.disk; admin = admin; listen = orders.listen; workers = orders.workers; key_file = orders.key_file; connections = orders.connections }
+plan_with orders admin = record { host = orders.host; disk = orders.disk; admin = admin; listen = orders.listen; workers = orders.workers; key_file = orders.key_file; connections = orders.connections; existing = orders.existing }
 
 -- what reading gave: a value, or none exactly at Usage; want of memory is free
 abbrev pub Reads : {A : Type 0} → Result A PlanFault → Option A → Type 0

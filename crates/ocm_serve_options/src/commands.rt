@@ -2,7 +2,7 @@
 
 ghost use Rattle.std.specs.Prelude.{◌≡◌, false, IfOk, codes};
 ghost use Rattle.clap.specs.Words.{app_of, rule_of};
-ghost use Rattle.ocm_serve_options.specs.Plans.{serve, needed, option, optional};
+ghost use Rattle.ocm_serve_options.specs.Plans.{serve, needed, option, optional, flag};
 
 use clap::{Arg, ArgAction, Command};
 use std::alloc::{AllocError, Global};
@@ -37,7 +37,15 @@ fn option_with<'a>(alloc: Global, name: &'a str, value: &'a str) -> Arg<'a>
         .default_value(value)
 }
 
-/// The command `serve` with its nine options, and nothing else.
+/// An option without a value.
+fn flag_named<'a>(alloc: Global, name: &'a str) -> Arg<'a>
+    ensures rule { rule_of result ≡ flag name.entry.now }
+    ensures local { result.global ≡ false }
+{
+    Arg::new(alloc, name).long(name).action(ArgAction::SetTrue)
+}
+
+/// The command `serve` with its ten options, and nothing else.
 pub(crate) fn serve_command<'a>(alloc: Global) -> Result<Command<'a>, AllocError>
     ensures { IfOk result (λ c. app_of c ≡ serve) }
 {
@@ -51,6 +59,7 @@ pub(crate) fn serve_command<'a>(alloc: Global) -> Result<Command<'a>, AllocError
     let key_file = option_with(alloc, "key-file", "/dev/urandom");
     let connections = option_with(alloc, "connections", "0");
     let log = free_option(alloc, "log");
+    let existing = flag_named(alloc, "existing");
     let c1 = bare.arg(host)?;
     let c2 = c1.arg(disk)?;
     let c3 = c2.arg(admin)?;
@@ -59,5 +68,6 @@ pub(crate) fn serve_command<'a>(alloc: Global) -> Result<Command<'a>, AllocError
     let c6 = c5.arg(workers)?;
     let c7 = c6.arg(key_file)?;
     let c8 = c7.arg(connections)?;
-    c8.arg(log)
+    let c9 = c8.arg(log)?;
+    c9.arg(existing)
 }

@@ -26,13 +26,14 @@ pub(crate) struct Names {
     pub admin: AdminKey,
 }
 
-/// Texts that are taken as they are.
+/// What is taken as it is.
 #[derive(Drop)]
 pub(crate) struct Places {
     pub disk: Text,
     pub listen: Text,
     pub key_file: Text,
     pub log: Option<Text>,
+    pub existing: bool,
 }
 
 /// The text that an option is.
@@ -49,6 +50,16 @@ fn number_at(matches: &ArgMatches<'_>, name: &str) -> Option<u64>
     match value_at(matches, name) {
         Some(text) => decimal_read(text),
         None => None,
+    }
+}
+
+/// Whether a flag is there.
+fn flag_at(matches: &ArgMatches<'_>, name: &str) -> bool
+    ensures { result ≡ plans.flag_at name.now (rows_of (found_of matches.now)) }
+{
+    match value_at(matches, name) {
+        Some(text) => text == "true",
+        None => false,
     }
 }
 
@@ -167,7 +178,7 @@ fn text_if(alloc: Global, matches: &ArgMatches<'_>, name: &str) -> Result<Option
     }
 }
 
-/// Texts that are taken as they are.
+/// What is taken as it is.
 #[tactic(auto, unfolding(crate::specs::Plans::places_at))]
 pub(crate) fn places_at(alloc: Global, matches: &ArgMatches<'_>) -> Result<Places, PlanFault>
     ensures { Reads result (plans.places_at (rows_of (found_of matches.now))) }
@@ -181,5 +192,6 @@ pub(crate) fn places_at(alloc: Global, matches: &ArgMatches<'_>) -> Result<Place
         listen,
         key_file,
         log,
+        existing: flag_at(matches, "existing"),
     })
 }

@@ -20,6 +20,8 @@ pub struct Plan {
     pub key_file: Text,
     /// How many connections each worker serves, 0 for no end.
     pub connections: u64,
+    /// Whether the file of its disk has to be there: a missing one is refused, and none is made.
+    pub existing: bool,
 }
 
 impl Drop for Plan {
@@ -32,6 +34,7 @@ impl Drop for Plan {
             workers: _,
             key_file: _,
             connections: _,
+            existing: _,
         } = self;
     }
 }
@@ -63,6 +66,8 @@ pub struct Orders {
     pub connections: u64,
     /// The file of the log of what readers are answered, where there is to be one.
     pub log: Option<Text>,
+    /// Whether the file of its disk has to be there: a missing one is refused, and none is made.
+    pub existing: bool,
 }
 
 impl Drop for Orders {
@@ -76,6 +81,7 @@ impl Drop for Orders {
             key_file: _,
             connections: _,
             log: _,
+            existing: _,
         } = self;
     }
 }
@@ -94,6 +100,7 @@ impl Orders {
             key_file,
             connections,
             log: _,
+            existing,
         } = self;
         Plan {
             host,
@@ -103,6 +110,7 @@ impl Orders {
             workers,
             key_file,
             connections,
+            existing,
         }
     }
 }

@@ -62,12 +62,13 @@ fn orders_by_options(alloc: Global, matches: &ArgMatches<'_>) -> Result<Orders, 
         key_file: places.key_file,
         connections: numbers.connections,
         log: places.log,
+        existing: places.existing,
     })
 }
 
 /// Reads the words behind a program's name: `serve` and its options `--host`, `--disk`, `--admin`,
-/// `--admin-file`, `--listen`, `--workers`, `--key-file`, `--connections` and `--log`, each of one value. The first two are
-/// required, and of the next two exactly one.
+/// `--admin-file`, `--listen`, `--workers`, `--key-file`, `--connections` and `--log`, each of one value, and the flag
+/// `--existing`. The first two are required, and of the next two exactly one.
 pub fn read_plan(alloc: Global, words: &[String]) -> Result<Orders, PlanFault>
     ensures { Reads result (orders_of (texts words.now)) }
 {

@@ -2,7 +2,7 @@ use Rattle.std.proofs.Common.{ap, ap₂, ◌∙◌, ◌≡◌, codes, true}
 use Rattle.std.proofs.lemmas.Result.{IfOk-weaker}
 use Rattle.clap.specs.Words.{App, app_of, new_app, with_rule}
 use Rattle.clap.specs.Simple.{on_top, app_of_fields}
-use Rattle.ocm_serve_options.specs.Plans.{needed, option, optional}
+use Rattle.ocm_serve_options.specs.Plans.{needed, option, optional, flag}
 use Rattle.ocm_serve_options.proofs.commands.serve_command.Goals as goal
 
 abbrev a0 : App
@@ -35,6 +35,9 @@ a8 = with_rule a7 (optional (codes "connections") (codes "0"))
 abbrev a9 : App
 a9 = with_rule a8 (option (codes "log"))
 
+abbrev a10 : App
+a10 = with_rule a9 (flag (codes "existing"))
+
 pub returns : goal.returns
 returns c =
     let e0 : app_of c.disable_help_flag-bare.result ≡ a0 = ap app_of_fields c.disable_help_flag-bare.ensures ∙ ap (on_top (λ s. record s { disable_help_flag = true })) c.new.ensures.app in
@@ -46,4 +49,5 @@ returns c =
     let e6 : app_of c.in_ok-c6.c6 ≡ a6 = c.in_ok-c6.ensures.shape c.option_with-workers.ensures.local ∙ ap₂ with_rule e5 c.option_with-workers.ensures.rule in
     let e7 : app_of c.in_ok-c7.c7 ≡ a7 = c.in_ok-c7.ensures.shape c.option_with-key_file.ensures.local ∙ ap₂ with_rule e6 c.option_with-key_file.ensures.rule in
     let e8 : app_of c.in_ok-c8.c8 ≡ a8 = c.in_ok-c8.ensures.shape c.option_with-connections.ensures.local ∙ ap₂ with_rule e7 c.option_with-connections.ensures.rule in
-    IfOk-weaker c.arg-9.result _ _ (λ r h. h.shape c.free_option-log.ensures.local ∙ ap₂ with_rule e8 c.free_option-log.ensures.rule) c.arg-9.ensures
+    let e9 : app_of c.in_ok-c9.c9 ≡ a9 = c.in_ok-c9.ensures.shape c.free_option-log.ensures.local ∙ ap₂ with_rule e8 c.free_option-log.ensures.rule in
+    IfOk-weaker c.arg-10.result _ _ (λ r h. h.shape c.flag_named-existing.ensures.local ∙ ap₂ with_rule e9 c.flag_named-existing.ensures.rule) c.arg-10.ensures
