@@ -1,5 +1,5 @@
 -- What is answered where a record has a fault, and where a target is none.
-use Rattle.std.proofs.Common.{◌≡◌, ℕ, List, Bool, true, false, Result, Ok, Err, refl, sym, ap, ◌∙◌, codes}
+use Rattle.std.proofs.Common.{◌≡◌, ℕ, List, Bool, false, Result, Ok, Err, refl, sym, ap, ◌∙◌, codes}
 use Rattle.std.specs.Prelude.{IfOk, IsErr}
 use Rattle.std.proofs.lemmas.Bool.{cond-false, false≢true}
 use Rattle.ocm_texts.specs.declared.failures.NoMemory.{NoMemory}

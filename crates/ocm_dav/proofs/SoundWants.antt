@@ -43,8 +43,10 @@ use Rattle.ocm_dav.specs.Depths.{depth_of}
 use Rattle.ocm_dav.specs.Verbs.{verb_of}
 use Rattle.ocm_dav.specs.Shapes.{shape_of, with_range}
 use Rattle.ocm_dav.specs.Carries.{overwriting, overwrite, placed, sent, destination, at_depth, carried}
-use Rattle.ocm_dav.specs.Files.{at_path, depth, listed, held, granted, located, allowed}
-use Rattle.ocm_dav.specs.Posts.{post_refusal, unless, offer_wanted, notice_wanted, shares_wanted, notifications_wanted, command_wanted, keyed, by_key, local_wanted}
+use Rattle.ocm_dav.specs.Files.{at_path, depth, listed, stored, held, granted, located, allowed}
+use Rattle.ocm_dav.specs.Posts.{post_refusal, unless, offer_wanted, notice_wanted, shares_wanted, notifications_wanted, command_wanted, keyed, by_key, from_own_site, local_wanted}
+use Rattle.ocm_dav.specs.Refusals.{cross_site}
+use Rattle.ocm_dav.specs.Sites.{is_cross_site}
 use Rattle.ocm_dav.specs.Routes as routes
 use Rattle.ocm_dav.specs.Routes.{is_discovery, is_shares, is_notifications, discovery_wanted, below_wanted, path_wanted, target_wanted, head_wanted, wanted_of}
 use Rattle.ocm_dav.specs.Sound.{AsksProperly, HasSpan, AsksOutside}
@@ -115,6 +117,10 @@ mkcol_body : (body : List ℕ) → IsTrue (is_body_of methods.Mkcol body)
 mkcol_body [] = refl
 mkcol_body (b ∷ body) = refl
 
+sound-stored : (body : List ℕ) (shape : Shape) (path : Segments) (secret : List ℕ) (part : Option (List ℕ)) → IsRanged shape → IsTrue (is_short path) → IsSound (stored body shape path secret part)
+sound-stored body shape path secret None r p = sound-at_path methods.Put path secret body shape r (put_body body) p
+sound-stored body shape path secret (Some part) r p = page _
+
 value_ranged : (value : Option (List ℕ)) → IfSome (option_and_then span_of value) (λ span. IsTrue (is_span span))
 value_ranged None = tt
 value_ranged (Some value) = sound_of value (span_of value) refl
@@ -125,7 +131,7 @@ ranged fields shape = record { span = value_ranged (first_value (codes "range") 
 sound-held : (host : List ℕ) (fields : List Field) (body : List ℕ) (shape : Shape) (path : Segments) (secret : List ℕ) (verb : Verb) → IsRanged shape → IsTrue (is_short path) → IsSound (held host fields body shape path secret verb)
 sound-held host fields body shape path secret verbs.Get r p = sound-at_path methods.Get path secret [] (with_range fields shape) (ranged fields shape) refl p
 sound-held host fields body shape path secret verbs.Head r p = sound-at_path methods.Head path secret [] shape r refl p
-sound-held host fields body shape path secret verbs.Put r p = sound-at_path methods.Put path secret body shape r (put_body body) p
+sound-held host fields body shape path secret verbs.Put r p = sound-stored body shape path secret (first_value (codes "content-range") fields) r p
 sound-held host fields body shape path secret verbs.Delete r p = sound-at_path methods.Delete path secret [] shape r refl p
 sound-held host fields body shape path secret verbs.Mkcol r p = sound-at_path methods.Mkcol path secret body shape r (mkcol_body body) p
 sound-held host fields body shape path secret verbs.Propfind r p = sound-listed path secret shape (depth fields) r p
@@ -167,6 +173,10 @@ sound-keyed : (admin body fresh : List ℕ) (shape : Shape) (secret : Option (Li
 sound-keyed admin body fresh shape None r = page _
 sound-keyed admin body fresh shape (Some secret) r = sound-command admin secret fresh shape (record_of (local fresh) body) r (proper-record fresh body)
 
+sound-from_own_site : (host admin : List ℕ) (fields : List Field) (body fresh : List ℕ) (shape : Shape) → IsRanged shape → IsSound (from_own_site host admin fields body fresh shape)
+sound-from_own_site host admin fields body fresh shape r =
+    one_of (is_cross_site host fields) (cross_site shape) (by_key admin fields body fresh shape) (page _) (sound-keyed admin body fresh shape (credentials_of fields) r)
+
 -- by the routes
 unranged : (method : List ℕ) (closing : Bool) (allow : Allow) → IsRanged (shape_of method closing allow)
 unranged method closing allow = record { span = tt }
@@ -186,8 +196,8 @@ sound-path config method path closing fields body fresh =
     (sound-unless (post_refusal method body posted) (offer_wanted posted (record_of offer body)) (sound-offer posted (record_of offer body) r))
     (one_of (is_notifications path) (notifications_wanted method body fresh posted) _
     (sound-unless (post_refusal method body posted) (notice_wanted fresh posted (record_of notice body)) (sound-notice fresh posted (record_of notice body) r))
-    (one_of (bytes_eq path (codes "/local")) (local_wanted config.admin method fields body fresh posted) _
-    (sound-unless (post_refusal method body posted) (by_key config.admin fields body fresh posted) (sound-keyed config.admin body fresh posted (credentials_of fields) r))
+    (one_of (bytes_eq path (codes "/local")) (local_wanted config.host config.admin method fields body fresh posted) _
+    (sound-unless (post_refusal method body posted) (from_own_site config.host config.admin fields body fresh posted) (sound-from_own_site config.host config.admin fields body fresh posted r))
     (sound-below config method closing fields body (below_dav path)))))
 
 sound-target : (config : Config) (method target : List ℕ) (closing : Bool) (fields : List Field) (body fresh : List ℕ) → IsSound (target_wanted config method target closing fields body fresh)

@@ -37,11 +37,16 @@ listed path secret shape (Some One) = at_path methods.List1 path secret [] shape
 listed path secret shape (Some Infinity) = not_finite shape
 listed path secret shape None = bad_request (codes "bad depth") shape
 
+-- what a PUT wants, unless it has a `content-range` field: what it sends is then a part of a file (RFC 9110 section 14.5)
+abbrev pub stored : List ℕ → Shape → Segments → List ℕ → Option (List ℕ) → Wanted
+stored body shape path secret None = at_path methods.Put path secret body shape
+stored body shape path secret (Some part) = bad_request (codes "no partial put") shape
+
 -- what the holder of a secret wants at a path: a range is for GET alone, a body for PUT and MKCOL
 abbrev pub held : List ℕ → List Field → List ℕ → Shape → Segments → List ℕ → Verb → Wanted
 held host fields body shape path secret Get = at_path methods.Get path secret [] (with_range fields shape)
 held host fields body shape path secret Head = at_path methods.Head path secret [] shape
-held host fields body shape path secret Put = at_path methods.Put path secret body shape
+held host fields body shape path secret Put = stored body shape path secret (first_value (codes "content-range") fields)
 held host fields body shape path secret Delete = at_path methods.Delete path secret [] shape
 held host fields body shape path secret Mkcol = at_path methods.Mkcol path secret body shape
 held host fields body shape path secret Propfind = listed path secret shape (depth fields)

@@ -8,5 +8,6 @@ pub mod Posts
 pub mod Refusals
 pub mod Routes
 pub mod Shapes
+pub mod Sites
 pub mod Sound
 pub mod Verbs

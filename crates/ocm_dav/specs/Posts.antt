@@ -20,7 +20,8 @@ use Rattle.ocm_dav_pages.specs.Pages.{message_page}
 use Rattle.ocm_dav.specs.declared.wants.Wanted.{Wanted}
 use Rattle.ocm_dav.specs.declared.wants.Wanted.TheVariants as wanted
 use Rattle.ocm_dav.specs.Credentials.{credentials_of}
-use Rattle.ocm_dav.specs.Refusals.{refusal, refused, bad_record}
+use Rattle.ocm_dav.specs.Refusals.{refusal, refused, bad_record, cross_site}
+use Rattle.ocm_dav.specs.Sites.{is_cross_site}
 
 -- the refusal of what is not posted, or has a body of more than 65,536 bytes
 abbrev pub post_refusal : List ℕ → List ℕ → Shape → Option Page
@@ -73,7 +74,12 @@ keyed admin body fresh shape (Some secret) = command_wanted admin secret fresh s
 abbrev pub by_key : List ℕ → List Field → List ℕ → List ℕ → Shape → Wanted
 by_key admin fields body fresh shape = keyed admin body fresh shape (credentials_of fields)
 
--- what a request with a command wants
-abbrev pub local_wanted : List ℕ → List ℕ → List Field → List ℕ → List ℕ → Shape → Wanted
-local_wanted admin method fields body fresh shape =
-    unless (post_refusal method body shape) (by_key admin fields body fresh shape)
+-- what a command wants of the server of this host by the site that it comes from, which is before its credentials
+abbrev pub from_own_site : List ℕ → List ℕ → List Field → List ℕ → List ℕ → Shape → Wanted
+from_own_site host admin fields body fresh shape =
+    if is_cross_site host fields then cross_site shape else by_key admin fields body fresh shape
+
+-- what a request with a command wants of the server of this host
+abbrev pub local_wanted : List ℕ → List ℕ → List ℕ → List Field → List ℕ → List ℕ → Shape → Wanted
+local_wanted host admin method fields body fresh shape =
+    unless (post_refusal method body shape) (from_own_site host admin fields body fresh shape)

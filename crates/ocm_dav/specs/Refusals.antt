@@ -31,6 +31,10 @@ bad_request message shape = told 400 message shape
 abbrev pub other_server : Shape → Wanted
 other_server shape = told 502 (codes "other server") shape
 
+-- a command that a page of another site posts (RFC 9110 section 15.5.4)
+abbrev pub cross_site : Shape → Wanted
+cross_site shape = told 403 (codes "cross site") shape
+
 -- a path with a fault
 abbrev pub bad_path : PathFault → Shape → Wanted
 bad_path fault shape = bad_request (path_message fault) shape

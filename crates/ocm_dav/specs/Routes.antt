@@ -58,7 +58,7 @@ path_wanted config method path closing fields body fresh =
     else if is_shares path then shares_wanted method body (shape_of method closing Post)
     else if is_notifications path then notifications_wanted method body fresh (shape_of method closing Post)
     else if bytes_eq path (codes "/local")
-    then local_wanted config.admin method fields body fresh (shape_of method closing Post)
+    then local_wanted config.host config.admin method fields body fresh (shape_of method closing Post)
     else at_path config method path closing fields body
 
 -- what a request wants, by its target, which is a path up to its first `?` (RFC 9112 section 3.2.1)

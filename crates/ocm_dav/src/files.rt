@@ -1,6 +1,7 @@
 //! Requests for files (RFC 4918).
 
-ghost use Rattle.std.specs.Prelude.{◌≡◌, [], None, IfOk};
+ghost use Rattle.std.specs.Prelude.{◌≡◌, [], None, IfOk, codes};
+ghost use Rattle.ocm_dav.specs.Fields.{first_value};
 ghost use Rattle.ocm_dav.specs.Files as files;
 
 use crate::carries::carried;
@@ -99,7 +100,7 @@ fn held(
     match verb {
         Verb::Get => bare(alloc, Method::Get, path, secret, with_range(list, shape)),
         Verb::Head => bare(alloc, Method::Head, path, secret, shape),
-        Verb::Put => with_body(Method::Put, path, secret, body, shape),
+        Verb::Put => stored(alloc, path, secret, list, body, shape),
         Verb::Delete => bare(alloc, Method::Delete, path, secret, shape),
         Verb::Mkcol => with_body(Method::Mkcol, path, secret, body, shape),
         Verb::Propfind => listed(alloc, path, secret, list, shape),
@@ -149,6 +150,25 @@ fn with_body(
         },
         shape,
     ))
+}
+
+/// What a PUT wants: to write the whole file. One that sends a part of it is refused (RFC 9110 section
+/// 14.5).
+fn stored(
+    alloc: Global,
+    path: Path,
+    secret: Secret,
+    fields: &[Field],
+    body: &Bytes,
+    shape: Shape,
+) -> Result<Wanted, NoMemory>
+    ensures { IfOk result (λ wanted. wanted ≡ files.stored body.now shape path secret
+        (first_value (codes "content-range") fields.now)) }
+{
+    match first_value(fields, "content-range") {
+        Some(_) => bad_request(alloc, "no partial put", &shape),
+        None => with_body(Method::Put, path, secret, body, shape),
+    }
 }
 
 /// What a PROPFIND wants.

@@ -15,6 +15,7 @@ mod refusals;
 mod routes;
 mod secrets;
 mod shapes;
+mod sites;
 mod verbs;
 mod wants;
 

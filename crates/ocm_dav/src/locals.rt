@@ -5,9 +5,11 @@ ghost use Rattle.ocm_records.specs.Commands.{local};
 ghost use Rattle.ocm_records.specs.Rows.{record_of};
 ghost use Rattle.ocm_dav.specs.Posts as posts;
 
+use crate::configs::Config;
 use crate::posts::post_refusal;
-use crate::refusals::{bad_record, refused};
+use crate::refusals::{bad_record, cross_site, refused};
 use crate::secrets::credentials;
+use crate::sites::is_cross_site;
 use crate::wants::Wanted;
 use ocm_base::{Bytes, List, NoMemory};
 use ocm_dav_pages::Shape;
@@ -17,11 +19,12 @@ use ocm_records::{LocalAsk, read_local};
 use ocm_types::{Fresh, Name, Secret};
 use std::alloc::Global;
 
-/// What a request at the route of local commands wants, with these drawn bytes. The credentials come
-/// before the record, and the administrator's key after it.
+/// What a request at the route of local commands wants, with these drawn bytes. The site that it comes
+/// from is looked at before the credentials, and they come before the record, and the
+/// administrator's key after it.
 pub(crate) fn local_wanted(
     alloc: Global,
-    admin: &Secret,
+    config: &Config,
     method: &str,
     fields: &List<Field>,
     body: &Bytes,
@@ -30,11 +33,31 @@ pub(crate) fn local_wanted(
 ) -> Result<Wanted, NoMemory>
     requires { shape.range ≡ None }
     ensures { IfOk result (λ wanted. wanted
-        ≡ posts.local_wanted admin.now method.now fields.now body.now fresh shape) }
+        ≡ posts.local_wanted config.now.host config.now.admin method.now fields.now body.now fresh shape) }
 {
     match post_refusal(alloc, method, body, &shape) {
         Ok(Some(page)) => Ok(Wanted::Page(page)),
-        Ok(None) => keyed(alloc, admin, fields, body.as_slice(), fresh, shape),
+        Ok(None) => from_own_site(alloc, config, fields, body.as_slice(), fresh, shape),
+        Err(NoMemory) => Err(NoMemory),
+    }
+}
+
+/// What a command wants, unless a page of another site posts it.
+fn from_own_site(
+    alloc: Global,
+    config: &Config,
+    fields: &List<Field>,
+    body: &[u8],
+    fresh: Fresh,
+    shape: Shape,
+) -> Result<Wanted, NoMemory>
+    requires { shape.range ≡ None }
+    ensures { IfOk result (λ wanted. wanted
+        ≡ posts.from_own_site config.now.host config.now.admin fields.now body.now fresh shape) }
+{
+    match is_cross_site(alloc, &config.host, fields.as_slice()) {
+        Ok(true) => cross_site(alloc, &shape),
+        Ok(false) => keyed(alloc, &config.admin, fields, body, fresh, shape),
         Err(NoMemory) => Err(NoMemory),
     }
 }

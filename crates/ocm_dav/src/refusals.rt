@@ -51,6 +51,14 @@ pub(crate) fn other_server(alloc: Global, shape: &Shape) -> Result<Wanted, NoMem
     Ok(Wanted::Page(page))
 }
 
+/// The refusal of a command that a page of another site posts: 403 (RFC 9110 section 15.5.4).
+pub(crate) fn cross_site(alloc: Global, shape: &Shape) -> Result<Wanted, NoMemory>
+    ensures { IfOk result (λ wanted. wanted ≡ refusals.cross_site shape.now) }
+{
+    let page = message_page(alloc, 403, "cross site", shape)?;
+    Ok(Wanted::Page(page))
+}
+
 /// The refusal of a path.
 pub(crate) fn bad_path(alloc: Global, fault: PathFault, shape: &Shape) -> Result<Wanted, NoMemory>
     ensures { IfOk result (λ wanted. wanted ≡ refusals.bad_path fault shape.now) }

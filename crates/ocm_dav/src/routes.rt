@@ -26,7 +26,7 @@ use std::alloc::Global;
 ///
 /// A page comes at once for the discovery document, and where the request is refused before
 /// anything is asked. Of several reasons the first decides: the target, the method, the length of
-/// what is posted, the path, the credentials, then the fields or the record. Else the ask is what
+/// what is posted, the site that posts a command, the path, the credentials, then the fields or the record. Else the ask is what
 /// the request spells, and the shape says how its reply is written.
 pub fn ask_of(
     alloc: Global,
@@ -131,7 +131,7 @@ fn path_wanted(
         notifications_wanted(alloc, method, body, fresh, shape)
     } else if path == "/local" {
         let shape = shape_of(method, closing, Allow::Post);
-        local_wanted(alloc, &config.admin, method, fields, body, fresh, shape)
+        local_wanted(alloc, config, method, fields, body, fresh, shape)
     } else {
         below_wanted(alloc, config, method, path, closing, fields, body)
     }

@@ -1,13 +1,14 @@
 -- What is answered of a destination.
-use Rattle.std.proofs.Common.{◌≡◌, ◌≢◌, ℕ, List, Result, Ok, Err, refl, sym, ap, ◌∙◌}
+use Rattle.std.proofs.Common.{◌≡◌, ◌≢◌, ℕ, false, List, None, Result, Ok, Err, refl, sym, ap, ◌∙◌}
 use Rattle.std.specs.Prelude.{IfOk, IfErr}
 use Rattle.std.specs.Str.{IsUtf8}
 use Rattle.std.proofs.lemmas.Bool.{cond-true, cond-false, false_from_ne_true}
 use Rattle.std.proofs.lemmas.Str.{is_utf8-from_IsUtf8, IsUtf8-from_is_utf8}
+use Rattle.url.specs.Parser.{parse_url}
 use Rattle.ocm_path.specs.Paths.{Segments}
 use Rattle.ocm_davmore.specs.declared.faults.DestinationFault.{DestinationFault}
 use Rattle.ocm_davmore.specs.declared.faults.DestinationFault.TheVariants.{OtherServer, BadPath, NoMemory}
-use Rattle.ocm_davmore.specs.Destinations.{text_destination, fault_without_text, destination_of, Gives}
+use Rattle.ocm_davmore.specs.Destinations.{text_destination, fault_without_text, destination_of, is_own_origin, is_own_read, Gives}
 
 -- a value that is a text is read as it
 pub destination-text : (ours value text : List ℕ) → text ≡ value → IsUtf8 value → text_destination ours text ≡ destination_of ours value
@@ -18,6 +19,16 @@ destination-text ours value text same utf8 =
 pub destination-no_text : (ours value : List ℕ) → ¬ IsUtf8 value → destination_of ours value ≡ Err (fault_without_text value)
 destination-no_text ours value none =
     cond-false _ _ _ (false_from_ne_true _ (λ e. none (IsUtf8-from_is_utf8 value e)))
+
+-- an origin that is a text is read as it
+pub origin-text : (ours value text : List ℕ) → text ≡ value → IsUtf8 value → is_own_read ours (parse_url None text) ≡ is_own_origin ours value
+origin-text ours value text same utf8 =
+    ap (λ t. is_own_read ours (parse_url None t)) same ∙ sym (cond-true _ _ _ (is_utf8-from_IsUtf8 value utf8))
+
+-- one that is none is not ours
+pub origin-no_text : (ours value : List ℕ) → ¬ IsUtf8 value → false ≡ is_own_origin ours value
+origin-no_text ours value none =
+    sym (cond-false _ _ _ (false_from_ne_true _ (λ e. none (IsUtf8-from_is_utf8 value e))))
 
 -- what a path that was answered was read from
 pub ok_of : (answer read given : Result Segments DestinationFault) → read ≡ given → Gives answer read → IfOk answer (λ path. given ≡ Ok path)

@@ -47,6 +47,15 @@ is_ours ours url =
     is_web url.scheme
     && option_map_or (λ host. names_host ours (host_text host) url.port) (nonempty_host url) false
 
+-- whether an address, as `url` reads it, is one of ours; what is no address is not
+abbrev pub is_own_read : List ℕ → Parsed Parts → Bool
+is_own_read ours (Ok url) = is_ours ours url
+is_own_read ours (Err fault) = false
+
+-- whether the value of an `Origin` (RFC 6454 section 7) is ours: an address of `http` or `https` with our host
+abbrev pub is_own_origin : List ℕ → List ℕ → Bool
+is_own_origin ours value = if is_utf8 value then is_own_read ours (parse_url None value) else false
+
 -- what may follow `/dav`: nothing, or what begins with `/`
 abbrev pub is_rest : List ℕ → Bool
 is_rest [] = true
