@@ -1,7 +1,7 @@
-use Rattle.std.proofs.Common.{◌≡◌, ℕ, ◌+◌, List, ◌++◌, length, take, drop, Option, Some, None, sym, refl, append_assoc}
+use Rattle.std.proofs.Common.{◌≡◌, ℕ, ◌+◌, List, ◌++◌, length, take, drop, Option, Some, None, [], ap, sym, refl, append_assoc, append-nil}
 use Rattle.std.proofs.Math.Seq.{take-append_seam, take-add}
 use Rattle.std.proofs.lemmas.List.{take-append-drop, drop-drop}
-use Rattle.ocm_base.specs.Outside.{Appends, Takes}
+use Rattle.ocm_base.specs.Outside.{Appends, Takes, Flow, Came}
 
 -- what was added twice was added at once
 pub Appends-twice : (a b c : Option (List ℕ)) (x y : List ℕ) → Appends a b x → Appends b c y → Appends a c (x ++ y)
@@ -23,3 +23,19 @@ rest-from_copied bytes copied behind place n e m =
 pub Takes-twice : (a b c : Option (List ℕ)) (x y : List ℕ) → Takes a b x → Takes b c y → Takes a c (x ++ y)
 Takes-twice a b None x y h k = rw (h, k) refl
 Takes-twice a b (Some z) x y h k = rw (h, k, append_assoc) refl
+
+-- no bytes came
+pub came_none : (a : Flow) → Came a a []
+came_none a = (taken a.left, added a.received)
+  where
+    taken : (o : Option (List ℕ)) → Takes o o []
+    taken None = refl
+    taken (Some rest) = refl
+
+    added : (o : Option (List ℕ)) → Appends o o []
+    added None = refl
+    added (Some held) = ap Some (sym (append-nil held))
+
+-- what came twice came at once
+pub came_twice : (a b c : Flow) (x y : List ℕ) → Came a b x → Came b c y → Came a c (x ++ y)
+came_twice a b c x y h k = (Takes-twice a.left b.left c.left x y h.0 k.0, Appends-twice a.received b.received c.received x y h.1 k.1)

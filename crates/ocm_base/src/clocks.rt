@@ -71,26 +71,34 @@ impl Clock for MemClock {
     }
 }
 
-/// The system's clock. It gives 0 before 1970 and where the system has no time.
+/// The system's clock. It gives 0 before 1970 and where the system has no time. It tells what it gave.
 #[derive(Drop)]
 pub struct StdClock<'a, R: time::Clock> {
     rt: &'a R,
+    given: Trace<u64>,
 }
 
 impl<'a, R: time::Clock> StdClock<'a, R> {
-    /// The clock of this runtime.
-    pub fn new(rt: &'a R) -> StdClock<'a, R> {
-        StdClock { rt }
+    /// The clock of this runtime. It gave nothing so far.
+    pub fn new(rt: &'a R) -> StdClock<'a, R>
+        ensures { ⟦<StdClock<'a, R> as Clock>⟧.given result ≡ Some [] }
+    {
+        StdClock {
+            rt,
+            given: Trace::new(),
+        }
     }
 }
 
 impl<'a, R: time::Clock> Clock for StdClock<'a, R> {
-    ghost given = { λ _. None };
+    ghost given = { λ c. Some (reverse c.given) };
 
     fn now(&mut self) -> u64 {
-        match self.rt.since_1970() {
+        let value = match self.rt.since_1970() {
             Ok(time) => time.as_secs(),
             Err(_) => 0,
-        }
+        };
+        self.given.push(&value);
+        value
     }
 }

@@ -7,6 +7,7 @@
 
 mod clocks;
 mod gates;
+mod ghost_bytes;
 mod joined;
 mod memory_sinks;
 mod memory_sources;
@@ -17,6 +18,7 @@ mod whole;
 
 pub use clocks::{Clock, MemClock, StdClock};
 pub use gates::Gate;
+pub use ghost_bytes::GhostBytes;
 pub use joined::Joined;
 pub use memory_sinks::{MemSink, PureSink};
 pub use memory_sources::{MemSource, PureSource};

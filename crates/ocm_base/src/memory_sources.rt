@@ -1,4 +1,4 @@
-ghost use Rattle.std.specs.Prelude.{◌≡◌, ℕ, ◌+◌, ◌-◌, ◌<◌, ◌≤◌, ◌==◌, min, Some, [], ◌++◌, length, drop, take, IfOk, IsOk, OnOk, IfSome, OnErr, is_err};
+ghost use Rattle.std.specs.Prelude.{◌≡◌, ℕ, ◌+◌, ◌-◌, ◌<◌, ◌≤◌, ◌==◌, min, Some, None, [], ◌++◌, length, drop, take, IfOk, IsOk, OnOk, IfSome, OnErr, is_err};
 ghost use Rattle.ocm_base.specs.Outside.{Rose, Takes, raised};
 ghost use Rattle.ocm_base.specs.Memory.{is_listed};
 
@@ -69,6 +69,8 @@ impl MemSource {
 
 impl Source for MemSource {
     ghost left = { λ s. Some s.left };
+
+    ghost received = { λ _. None };
 
     ghost faults = { λ s. s.faults };
 
@@ -160,6 +162,8 @@ impl PureSource {
 
 impl Source for PureSource {
     ghost left = { λ s. Some s.left };
+
+    ghost received = { λ _. None };
 
     ghost faults = { λ _. 0 };
 

@@ -8,6 +8,9 @@ pub trait Source: Drop {
     /// The bytes that it has left, where it knows them.
     ghost left: { Self → Option (List ℕ) };
 
+    /// The bytes that it gave so far, where it knows them. One that cannot tell what will come can tell this.
+    ghost received: { Self → Option (List ℕ) };
+
     /// How many faults it has had.
     ghost faults: { Self → ℕ };
 
@@ -17,9 +20,11 @@ pub trait Source: Drop {
         requires { 0 < length buf.old }
         ensures within { IfOk result (λ n. n ≤ length buf.old) }
         ensures taken { IfOk result (λ n. Takes (left self.old) (left self.new) (take n buf.new)) }
+        ensures received { IfOk result (λ n. Appends (received self.old) (received self.new) (take n buf.new)) }
         ensures ended { IfOk result (λ n. n ≡ 0 → IfSome (left self.new) (λ rest. rest ≡ [])) }
         ensures empty { IfOk result (λ n. IfSome (left self.old) (λ rest. rest ≡ [] → n ≡ 0)) }
         ensures err { OnErr result (left self.new ≡ left self.old) }
+        ensures none_received { OnErr result (received self.new ≡ received self.old) }
         ensures rose { OnErr result (Rose (faults self.old) (faults self.new)) }
         ensures never_falls { faults self.old ≤ faults self.new };
 }

@@ -1,5 +1,5 @@
 ghost use Rattle.std.specs.Prelude.{◌≡◌, ℕ, ◌+◌, ◌<◌, ◌≤◌, Some, [], ◌++◌, length, IfOk, IsOk, OnOk, IfSome, OnErr, option_map};
-ghost use Rattle.ocm_base.specs.Outside.{Rose, Appends, AppendsPart, Takes, TakesSome};
+ghost use Rattle.ocm_base.specs.Outside.{Rose, Appends, AppendsPart, AppendsSome, Takes, TakesSome};
 
 use crate::outside::{Sink, Source};
 use ocm_texts::{Bytes, Failed, NoMemory};
@@ -35,10 +35,12 @@ pub fn write_all<K: Sink>(sink: &mut K, piece: &[u8]) -> Result<(), Failed>
 /// source had left is gone.
 pub fn read_whole<S: Source>(alloc: Global, source: &mut S, limit: u64) -> Result<Bytes, ReadEnd>
     ensures ok { IfOk result (λ bytes. Takes (S.left source.old) (S.left source.new) bytes) }
+    ensures received { IfOk result (λ bytes. Appends (S.received source.old) (S.received source.new) bytes) }
     ensures ended { OnOk result (IfSome (S.left source.new) (λ rest. rest ≡ [])) }
     ensures within { IfOk result (λ bytes. length bytes ≤ limit) }
     ensures too_long { result ≡ Err ReadEnd.TooLong → IfSome (S.left source.old) (λ rest. limit < length rest) }
     ensures err { OnErr result (TakesSome (S.left source.old) (S.left source.new)) }
+    ensures received_some { OnErr result (AppendsSome (S.received source.old) (S.received source.new)) }
     ensures fault { result ≡ Err ReadEnd.ReadFault → Rose (S.faults source.old) (S.faults source.new) }
     ensures never_falls { S.faults source.old ≤ S.faults source.new }
 {

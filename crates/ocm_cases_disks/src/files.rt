@@ -1,9 +1,10 @@
 //! A disk over a real file, in the folder that the program runs in.
 use crate::disks::{disk_told, done_told};
 use crate::pieces::bytes_of;
-use crate::replaced::replace;
+use crate::replaced::replace_between_syncs;
+use ocm_base::GhostBytes;
 use ocm_cases_rows::{Steps, cut, steps_told};
-use ocm_disk::{Disk, FileDisk};
+use ocm_disk::{Disk, FileDisk, Missing};
 use std::alloc::Global;
 use std::fs::File;
 use std::rt::Files;
@@ -43,7 +44,7 @@ impl<'a, R: Files<File = File>> Steps for FilePlace<'a, R> {
 
 /// Opens the file, beside the disk that is open already where there is one.
 fn open<R: Files<File = File>>(alloc: Global, place: &mut FilePlace<'_, R>) -> Option<String> {
-    match FileDisk::open(place.rt, PATH) {
+    match FileDisk::open(place.rt, PATH, Missing::Make, GhostBytes::new()) {
         Ok(disk) => {
             place.disk = Some(disk);
             kind_told(alloc, Ok(()))
@@ -79,7 +80,7 @@ fn replaced_told(alloc: Global, disk: &mut FileDisk, row: &str) -> Option<String
         return None;
     }
     let byte = first_of(alloc, pieces)?;
-    done_told(alloc, replace(disk, place, byte))
+    done_told(alloc, replace_between_syncs(disk, place, byte))
 }
 
 fn first_of(alloc: Global, pieces: &str) -> Option<u8> {

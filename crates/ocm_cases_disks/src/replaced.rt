@@ -20,3 +20,12 @@ pub fn replace<D: Disk>(disk: &mut D, place: u64, byte: u8) -> Result<(), Failed
     disk.sync()?;
     Ok(())
 }
+
+/// Replaces one byte, with a sync before it and one behind it.
+pub fn replace_between_syncs<D: Disk>(disk: &mut D, place: u64, byte: u8) -> Result<(), Failed>
+    requires inside { place < D.size disk.old }
+    requires small { place < 2 ^ 40 }
+{
+    disk.sync()?;
+    replace(disk, place, byte)
+}

@@ -30,7 +30,7 @@ module _ (old new : Sides) where
   pub gives_noting : (notes : List Noted) (reader after : ReaderState) (r : Result (Option Message) FrameFault) → Gives reader after old new r → Gives reader after (noting old notes) (noting new notes) r
   gives_noting notes reader after r h = (
     h.0,
-    record { left = h.1.left; taken = h.1.taken; noted = refl; read_faults = h.1.read_faults; write_faults = h.1.write_faults },
+    record { flow = h.1.flow; taken = h.1.taken; noted = refl; read_faults = h.1.read_faults; write_faults = h.1.write_faults },
     given_noting notes reader after h.0 r h.2,
   )
 
@@ -42,7 +42,7 @@ module _ (old new : Sides) where
 
   -- the same writing, with other notes
   wrote_noting : (written : List ℕ) (notes more by_conn : List Noted) (after : List Noted) → after ≡ notes ++ more → Wrote old new written by_conn → Wrote (noting old notes) (noting new after) written more
-  wrote_noting written notes more by_conn after is h = record { left = h.left; taken = h.taken; noted = ap Some is; read_faults = h.read_faults; write_faults = h.write_faults }
+  wrote_noting written notes more by_conn after is h = record { flow = h.flow; taken = h.taken; noted = ap Some is; read_faults = h.read_faults; write_faults = h.write_faults }
 
   -- a page that was noted
   pub sends_page : (piece moments : List ℕ) (r : Result (Unit {0}) Failed) (notes after : List Noted) (page : Noted)

@@ -3,7 +3,7 @@ ghost use Rattle.std.specs.Prelude.{◌<◌, vec_len};
 
 use crate::dials::host_at;
 use crate::visits::visits_told;
-use ocm_base::Clock;
+use ocm_base::{Clock, GhostBytes};
 use ocm_disk::Disk;
 use ocm_pump::Dial;
 use ocm_serve::{Opening, serve, workers_for};
@@ -34,7 +34,7 @@ pub fn server_told<
 >(rt: &R, alloc: Global, line: &str) -> Option<String> {
     let mut plan = plan_of(rt, alloc, line)?;
     let _ = fs::remove_file(rt, plan.disk.as_str());
-    let opening = Opening::new(rt, alloc, &plan).ok()?;
+    let opening = Opening::new(rt, alloc, &plan, GhostBytes::new()).ok()?;
     let address = opening.entrance.address();
     plan.host = host_at(alloc, address)?;
     let (ended, visits) = join(

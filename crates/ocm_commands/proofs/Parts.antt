@@ -6,9 +6,9 @@ use Rattle.std.proofs.lemmas.List.{take-append-drop}
 use mathlib.Core.Logic.{inl, inr}
 use Rattle.ocm_base.specs.Outside.{AppendsPart}
 use Rattle.ocm_disk.specs.declared.shelf.ShelfPlace.{ShelfPlace}
-use Rattle.ocm_commands.specs.Commands.{Gives, Writes, WritesPart}
+use Rattle.ocm_commands.specs.Commands.{Gives, Writes, WritesOnCome, WritesPart}
 use Rattle.ocm_commands_files.specs.Commands.{GivesPlain, IsStatus, IsWhole, WritesPlain, WritesPlainPart, end_status, status_of}
-use Rattle.ocm_commands_files.specs.Words.{AreOf, AreOther, input_of, most_bytes}
+use Rattle.ocm_commands_files.specs.Words.{AreOf, AreOther, HasCome, input_of, most_bytes}
 use Rattle.ocm_commands_files.specs.declared.ends.End.{End}
 use Rattle.ocm_commands_files.specs.declared.ends.End.TheVariants as whole
 use Rattle.ocm_commands_files.specs.declared.ends.Fault.{Fault}
@@ -76,6 +76,17 @@ pub run-whole : (words : List (List ℕ)) (command c : Command) (run : Result En
     → IfOk run (λ end. IfSome (input_of command left) (λ bytes. Writes command bytes end old new shelf)) → IfSome (input_of c left) (λ bytes. (end : End) × (n ≡ end_status end) × Writes c bytes end old new shelf)
 run-whole words command c run n left old new shelf read are is done wrote =
     subst (λ d. IfSome (input_of d left) (λ bytes. (end : End) × (n ≡ end_status end) × Writes d bytes end old new shelf)) (same_Some command c ((read c).1 are)) (whole-of command run n left old new shelf is done wrote)
+
+-- the same on the bytes that came
+came-of : (command : Command) (run : Result End Fault) (n : ℕ) (before after old new : Option (List ℕ)) (shelf : List ShelfPlace) → n ≡ status_of run → IsWhole n
+    → IfOk run (λ end. (bytes : List ℕ) × HasCome command before after bytes × Writes command bytes end old new shelf) → WritesOnCome command n before after old new shelf
+came-of command (Ok end) n before after old new shelf is done wrote = (wrote.0, wrote.1, end, is, wrote.2)
+came-of command (Err fault) n before after old new shelf is done wrote = absurd (apart done.0 n (status_of (Err fault)) done.1 is (early-status fault))
+
+pub run-came : (words : List (List ℕ)) (command c : Command) (run : Result End Fault) (n : ℕ) (before after old new : Option (List ℕ)) (shelf : List ShelfPlace) → ((d : Command) → (Some command ≡ Some d) ↔ AreOf d words) → AreOf c words → n ≡ status_of run → IsWhole n
+    → IfOk run (λ end. (bytes : List ℕ) × HasCome command before after bytes × Writes command bytes end old new shelf) → WritesOnCome c n before after old new shelf
+run-came words command c run n before after old new shelf read are is done wrote =
+    subst (λ d. WritesOnCome d n before after old new shelf) (same_Some command c ((read c).1 are)) (came-of command run n before after old new shelf is done wrote)
 
 -- what a plain command gives is what the command gives, with any shelf
 plain-gives : (command : Command) (bytes : List ℕ) (end : End) (text : List ℕ) (shelf : Option (List ShelfPlace)) → GivesPlain command bytes end text → Gives command bytes end text shelf

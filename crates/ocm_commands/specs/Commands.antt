@@ -11,8 +11,8 @@ use Rattle.ocm_commands_files.specs.declared.ends.Fault.{Fault}
 use Rattle.ocm_commands_files.specs.declared.ends.Fault.TheVariants as faults
 use Rattle.ocm_commands_files.specs.declared.words.Command.{Command}
 use Rattle.ocm_commands_files.specs.declared.words.Command.TheVariants as commands
-use Rattle.ocm_commands_files.specs.Commands.{GivesPlain}
-use Rattle.ocm_commands_files.specs.Words.{most_bytes}
+use Rattle.ocm_commands_files.specs.Commands.{GivesPlain, end_status}
+use Rattle.ocm_commands_files.specs.Words.{HasCome, most_bytes}
 use Rattle.ocm_commands.specs.Scripts.{DrillsTo, Replays, TracesTo}
 
 -- on these bytes the command has this end, writes this text, and leaves this shelf, where that is told
@@ -25,6 +25,11 @@ Gives command bytes end text shelf = GivesPlain command bytes end text
 -- the command took the bytes, had this end, added its text and left this shelf
 abbrev pub Writes : Command → List ℕ → End → Option (List ℕ) → Option (List ℕ) → List ShelfPlace → Type 0
 Writes command bytes end old new shelf = (length bytes ≤ most_bytes command) × (text : List ℕ) × Appends old new text × Gives command bytes end text (Some shelf)
+
+-- bytes came as the command's input, and what the command writes on them was added, with the status of its end
+abbrev pub WritesOnCome : Command → ℕ → Option (List ℕ) → Option (List ℕ) → Option (List ℕ) → Option (List ℕ) → List ShelfPlace → Type 0
+WritesOnCome command status before after old new shelf =
+    (bytes : List ℕ) × HasCome command before after bytes × (end : End) × (status ≡ end_status end) × Writes command bytes end old new shelf
 
 -- nothing was added, or a front of the text of a whole run
 abbrev pub WritesPart : Command → List ℕ → Option (List ℕ) → Option (List ℕ) → Type 0

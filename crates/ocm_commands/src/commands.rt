@@ -1,9 +1,9 @@
-ghost use Rattle.std.specs.Prelude.{◌≡◌, ◌≢◌, ◌⊎◌, ◌≤◌, [], OnOk, OnErr, IfOk, IfSome, length, true, false};
+ghost use Rattle.std.specs.Prelude.{◌≡◌, ◌≢◌, ◌⊎◌, ◌≤◌, ℕ, List, [], OnOk, OnErr, IfOk, IfSome, length, true, false};
 ghost use Rattle.ocm_base.specs.Outside.{Appends, AppendsPart, Rose};
 ghost use Rattle.ocm_serve_options.specs.Plans.{texts};
-ghost use Rattle.ocm_commands.specs.Commands.{LeavesPart, MayShelve, Writes, WritesPart};
+ghost use Rattle.ocm_commands.specs.Commands.{LeavesPart, MayShelve, Writes, WritesOnCome, WritesPart};
 ghost use Rattle.ocm_commands_files.specs.Commands.{IsLong, IsStatus, IsWhole, end_status, usage_line};
-ghost use Rattle.ocm_commands_files.specs.Words.{AreOf, AreOther, BeginTrace, IsSmall, input_of, most_bytes, reads};
+ghost use Rattle.ocm_commands_files.specs.Words.{AreOf, AreOther, BeginTrace, HasCome, IsSmall, input_of, most_bytes, reads};
 
 use crate::drills::run_drill;
 use crate::scripts::run_script;
@@ -42,6 +42,10 @@ pub fn command<S: Source, K: Sink>(
         → IfSome (S.left source.new) (λ rest. rest ≡ []) }
     ensures whole { (c : Command) → AreOf c (texts words.now) → IsWhole result
         → IfSome (input_of c (S.left source.old)) (λ bytes. (end : End) × (result ≡ end_status end) × Writes c bytes end (K.taken sink.old) (K.taken sink.new) shelf.new) }
+
+    // the same of a source that tells what it gave: what the command writes on the bytes that came was added
+    ensures came { (c : Command) → AreOf c (texts words.now) → IsWhole result
+        → WritesOnCome c result (S.received source.old) (S.received source.new) (K.taken sink.old) (K.taken sink.new) shelf.new }
 
     // the other commands leave the source as it is
     ensures alone { (c : Command) → AreOf c (texts words.now) → reads c ≡ false → source.new ≡ source.old }
@@ -86,6 +90,7 @@ fn run<S: Source, K: Sink>(
     ensures ended { OnOk result (reads command.now ≡ true → IfSome (S.left source.new) (λ rest. rest ≡ [])) }
     ensures alone { reads command.now ≡ false → source.new ≡ source.old }
     ensures whole { IfOk result (λ end. IfSome (input_of command.now (S.left source.old)) (λ bytes. Writes command.now bytes end (K.taken sink.old) (K.taken sink.new) shelf.new)) }
+    ensures came { IfOk result (λ end. (bytes : List ℕ) × HasCome command.now (S.received source.old) (S.received source.new) bytes × Writes command.now bytes end (K.taken sink.old) (K.taken sink.new) shelf.new) }
     ensures part { OnErr result (IfSome (input_of command.now (S.left source.old)) (λ bytes. WritesPart command.now bytes (K.taken sink.old) (K.taken sink.new))) }
     ensures shelf_part { OnErr result (IfSome (input_of command.now (S.left source.old)) (λ bytes. LeavesPart command.now bytes shelf.new)) }
     ensures unshelved { MayShelve result ⊎ (shelf.new ≡ []) }

@@ -1,4 +1,5 @@
 use Rattle.std.specs.Prelude.{◌≡◌, ℕ, ◌≤◌, ◌⊎◌, Bool, true, false, List, [], ◌∷◌, Option, Some, codes, if◌then◌else◌}
+use Rattle.ocm_base.specs.Outside.{Appends}
 use Rattle.ocm_texts.specs.Decimal.{decimal_of}
 use Rattle.ocm_limits.specs.Limits.{most_audited_bytes, most_json_bytes, most_logcheck_bytes, most_script_bytes}
 use Rattle.ocm_types.specs.Hosts.{canonical_host_of}
@@ -64,6 +65,10 @@ reads _ = true
 -- the input of a command: what the source has left, and no bytes where the command does not read
 abbrev pub input_of : Command → Option (List ℕ) → Option (List ℕ)
 input_of command left = if reads command then left else Some []
+
+-- these bytes came from the source as the input of a command, where it tells what it gave; no bytes where the command does not read
+abbrev pub HasCome : Command → Option (List ℕ) → Option (List ℕ) → List ℕ → Type 0
+HasCome command old new bytes = (reads command ≡ true → Appends old new bytes) × (reads command ≡ false → bytes ≡ [])
 
 -- the most bytes that a command takes
 abbrev pub most_bytes : Command → ℕ

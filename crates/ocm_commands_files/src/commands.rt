@@ -2,7 +2,7 @@ ghost use Rattle.std.specs.Prelude.{◌≡◌, ◌≢◌, ◌⊎◌, ◌≤◌, 
 ghost use Rattle.ocm_base.specs.Outside.{Appends, AppendsPart, Rose};
 ghost use Rattle.ocm_commands_files.specs.Commands.{IsLong, IsPlain, WritesPlain, WritesPlainPart, usage_line};
 ghost use Rattle.ocm_commands_files.specs.Commands as specified;
-ghost use Rattle.ocm_commands_files.specs.Words.{input_of, most_bytes, reads};
+ghost use Rattle.ocm_commands_files.specs.Words.{HasCome, input_of, most_bytes, reads};
 
 use crate::audits::run_audit;
 use crate::checks::check;
@@ -41,6 +41,7 @@ pub fn read_input<S: Source>(
     ensures ended { OnOk result (reads command.now ≡ true → IfSome (S.left source.new) (λ rest. rest ≡ [])) }
     ensures alone { reads command.now ≡ false → source.new ≡ source.old }
     ensures input { IfOk result (λ bytes. IfSome (input_of command.now (S.left source.old)) (λ input. input ≡ bytes)) }
+    ensures came { IfOk result (λ bytes. HasCome command.now (S.received source.old) (S.received source.new) bytes) }
     ensures within { IfOk result (λ bytes. length bytes ≤ most_bytes command.now) }
     ensures too_long { result ≡ Err Fault.TooLong → IfSome (input_of command.now (S.left source.old)) (IsLong command.now) }
     ensures read_fault { result ≡ Err Fault.ReadFault → Rose (S.faults source.old) (S.faults source.new) }

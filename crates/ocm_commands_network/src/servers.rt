@@ -5,7 +5,7 @@ ghost use Rattle.ocm_serve_options.specs.Plans.{orders_of, texts};
 ghost use Rattle.ocm_serve_system.specs.Statuses.{IsStatus};
 ghost use Rattle.ocm_commands_files.specs.Commands.{usage_line};
 
-use ocm_base::{Sink, Text};
+use ocm_base::{GhostBytes, Sink, Text};
 use ocm_commands_files::usage;
 use ocm_serve::{run, run_logged};
 use ocm_serve_options::{Orders, Plan, PlanFault, read_plan};
@@ -92,8 +92,10 @@ fn run_plan<
     requires workers { 1 ≤ plan.now.workers }
     ensures { IsStatus result }
 {
+    // Contracts alone read what is said here of the disk: the program does the same whatever it is.
+    let holds = GhostBytes::new();
     match log {
-        Some(path) => run_logged(rt, alloc, plan, path.as_str()),
-        None => run(rt, alloc, plan),
+        Some(path) => run_logged(rt, alloc, plan, path.as_str(), holds),
+        None => run(rt, alloc, plan, holds),
     }
 }

@@ -211,6 +211,8 @@ impl Core {
         ensures goes_on { (g : List Entry) → IsAfter self.old.state g → result ≡ Ok true
             → IsAfter self.new.state (record { ask = ask.now; reply = answer self.old.state.host g ask.now } ∷ g) }
         ensures stays { result ≢ Ok true → self.new.state ≡ self.old.state }
+        ensures entries { result ≢ Ok true → self.new.entries ≡ self.old.entries }
+        ensures origins { result ≢ Ok true → self.new.origins ≡ self.old.origins }
         ensures home { self.new.state.host ≡ self.old.state.host }
     {
         match self.answer(ask) {
@@ -227,6 +229,8 @@ impl Core {
         ensures goes_on { (g : List Entry) (ask : Ask) → IsAfter self.old.state g → Plans self.old.state ask planned → result ≡ Ok true
             → IsAfter self.new.state (record { ask = ask; reply = planned.reply } ∷ g) }
         ensures stays { result ≢ Ok true → self.new.state ≡ self.old.state }
+        ensures entries { result ≢ Ok true → self.new.entries ≡ self.old.entries }
+        ensures origins { result ≢ Ok true → self.new.origins ≡ self.old.origins }
         ensures home { self.new.state.host ≡ self.old.state.host }
     {
         if !planned.changes() {

@@ -23,6 +23,12 @@ pub record Cut (n : ℕ) (old new : List ℕ) : Type 0 where
 abbrev pub Follows : (List ℕ → List ℕ → Type 0) → (List ℕ → Type 0) → (List ℕ → Type 0) → Type 0
 Follows step old new = (c : List ℕ) → new c → (d : List ℕ) × old d × step d c
 
+-- outside n bytes from a place on it is the same
+pub record SameBut (place n : ℕ) (old new : List ℕ) : Type 0 where
+  pub before : take place new ≡ take place old
+  pub after : drop (place + n) new ≡ drop (place + n) old
+  pub size : length new ≡ length old
+
 -- a crash leaves this and nothing else
 abbrev pub Only : List ℕ → (List ℕ → Type 0) → Type 0
 Only disk outcomes = (c : List ℕ) → outcomes c → c ≡ disk

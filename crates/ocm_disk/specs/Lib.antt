@@ -1,3 +1,5 @@
+pub mod AccountLaws
+pub mod Accounts
 pub mod Disk
 pub mod Fuse
 pub mod Marks

@@ -1,7 +1,7 @@
 //! A disk: what a read returns, and what a crash may leave.
 
 ghost use Rattle.std.specs.Prelude.{◌≡◌, ◌≤◌, ◌<◌, ◌+◌, ◌^◌, max, List, ℕ, length, take, drop, replicate, OnOk, OnErr, IsOk, IsErr};
-ghost use Rattle.ocm_disk.specs.Disk.{Only, Follows, Torn, Cut, Holds, Elapses, HasCause};
+ghost use Rattle.ocm_disk.specs.Disk.{Only, Follows, Torn, Cut, Holds, SameBut, Elapses, HasCause};
 
 use ocm_base::{Failed, NoMemory};
 
@@ -12,8 +12,12 @@ use ocm_base::{Failed, NoMemory};
 /// failed counts as made in part. Its device calls are `read_at`, `write_at`, `cut` and `sync`, and its clock moves
 /// at these alone. Places and lengths are counted in bytes.
 pub trait Disk: Drop {
-    /// Whether disks of this type tell what they hold. Those in memory do.
+    /// Whether disks of this type tell what they hold.
     ghost tells: { Type 0 };
+
+    /// That each read so far gave what stood there. It is so of those in memory. What a file gives is the system's, and where
+    /// it gives something else, the disk tells what it gave from then on.
+    ghost faithful: { Self → Type 0 };
 
     /// The bytes that a read returns.
     ghost seen: { Self → List ℕ };
@@ -60,6 +64,7 @@ pub trait Disk: Drop {
     fn room(&mut self, more: u64) -> Result<(), NoMemory>
         ensures room { OnOk result (more ≤ spare self.new) }
         ensures kept { spare self.old ≤ spare self.new }
+        ensures faithful { faithful self.new → faithful self.old }
         ensures size { size self.new ≡ size self.old }
         ensures seen { seen self.new ≡ seen self.old }
         ensures synced { synced self.new ≡ synced self.old }
@@ -73,13 +78,16 @@ pub trait Disk: Drop {
     /// Reads as many bytes as there is place for.
     fn read_at(&mut self, place: u64, buf: &mut [u8]) -> Result<(), Failed>
         requires { place + length buf.old ≤ size self.old }
-        ensures bytes { tells → OnOk result (buf.new ≡ take (length buf.old) (drop place (seen self.old))) }
+        ensures bytes { tells → OnOk result (buf.new ≡ take (length buf.old) (drop place (seen self.new))) }
+        ensures elsewhere { tells → SameBut place (length buf.old) (seen self.old) (seen self.new) }
+        ensures faithful { faithful self.new → faithful self.old }
         ensures spare { spare self.old ≤ spare self.new }
         ensures size { size self.new ≡ size self.old }
-        ensures seen { seen self.new ≡ seen self.old }
-        ensures synced { synced self.new ≡ synced self.old }
-        ensures torn { torn self.new ≡ torn self.old }
-        ensures crash { tells → (c : List ℕ) → may_leave self.new c → may_leave self.old c }
+        ensures seen { faithful self.new → seen self.new ≡ seen self.old }
+        ensures synced { faithful self.new → synced self.new ≡ synced self.old }
+        ensures torn { faithful self.new → torn self.new ≡ torn self.old }
+        ensures crash { tells → faithful self.new → (c : List ℕ) → may_leave self.new c → may_leave self.old c }
+        ensures settled { tells → Only (seen self.old) (may_leave self.old) → Only (seen self.new) (may_leave self.new) }
         ensures time { Elapses (moment self.old) (moment self.new) (left_since self.old) (left_since self.new) (may_leave self.new) }
         ensures passes { (n : ℕ) → passes self.old (n + 1) → IsOk result × passes self.new n }
         ensures burns { (n : ℕ) → burnt self.old (n + 1) → burnt self.new n }
@@ -92,6 +100,7 @@ pub trait Disk: Drop {
         requires end { place + length bytes.now ≤ 2 ^ 40 }
         ensures written { tells → OnOk result (Holds (seen self.old) place bytes.now (seen self.new)) }
         ensures in_part { tells → OnErr result (Torn place (length bytes.now) (seen self.old) (seen self.new)) }
+        ensures faithful { faithful self.new → faithful self.old }
         ensures spare { size self.old + spare self.old ≤ size self.new + spare self.new }
         ensures size { OnOk result (size self.new ≡ max (size self.old) (place + length bytes.now)) }
         ensures no_shorter { size self.old ≤ size self.new }
@@ -115,6 +124,7 @@ pub trait Disk: Drop {
         ensures no_longer { size self.new ≤ size self.old }
         ensures cut { tells → OnOk result (seen self.new ≡ take len (seen self.old)) }
         ensures in_part { tells → OnErr result (Cut len (seen self.old) (seen self.new)) }
+        ensures faithful { faithful self.new → faithful self.old }
         ensures spare { spare self.old ≤ spare self.new }
         ensures synced { synced self.new ≡ synced self.old }
         ensures torn { tells → OnOk result (torn self.new ≡ take len (torn self.old)) }
@@ -128,6 +138,7 @@ pub trait Disk: Drop {
     /// After it, a crash leaves what a read returns.
     fn sync(&mut self) -> Result<(), Failed>
         ensures durable { tells → OnOk result (Only (seen self.old) (may_leave self.new)) }
+        ensures faithful { faithful self.new → faithful self.old }
         ensures spare { spare self.old ≤ spare self.new }
         ensures size { size self.new ≡ size self.old }
         ensures seen { seen self.new ≡ seen self.old }

@@ -74,6 +74,8 @@ impl GateDisk {
 impl Disk for GateDisk {
     ghost tells = { Unit {0} };
 
+    ghost faithful = { λ d. Unit {0} };
+
     ghost seen = { λ d. d.images.seen };
 
     ghost size = { λ d. length d.images.seen };

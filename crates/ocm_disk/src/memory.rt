@@ -120,6 +120,8 @@ fn burn(fuse: &mut Option<u64>, faults: &mut u64) -> Result<(), Failed>
 impl Disk for MemDisk {
     ghost tells = { Unit {0} };
 
+    ghost faithful = { λ d. Unit {0} };
+
     ghost seen = { λ d. d.images.seen };
 
     ghost size = { λ d. length d.images.seen };

@@ -1,7 +1,8 @@
 -- A message whose head was read ahead.
 use Rattle.std.proofs.Common.{◌≡◌, ℕ, ◌≤◌, List, [], ◌++◌, length, take, drop, Bool, true, false, Option, Some, Ok, refl, sym, ◌∙◌, subst, arith, append-nil}
-use Rattle.std.specs.Prelude.{IfSome}
 use Rattle.std.proofs.lemmas.List.{take_all, drop_all}
+use Rattle.ocm_base.specs.Outside.{Flow, IsDry}
+use Rattle.ocm_base.proofs.Pieces.{came_none}
 use Rattle.ocm_limits.specs.Limits.{most_body_bytes}
 use Rattle.ocm_http_heads.specs.Endings.{of_head}
 use Rattle.ocm_http_heads.specs.declared.fields.Head.{Head}
@@ -19,7 +20,6 @@ use Rattle.ocm_http.specs.declared.stages.Stage.{Stage}
 use Rattle.ocm_http.specs.declared.stages.Begun.{Begun}
 use Rattle.ocm_http.specs.declared.stages.Begun.TheVariants.{On, All}
 use Rattle.ocm_http.proofs.HeadSteps.{head_frame}
-use Rattle.ocm_http.proofs.UnderWay.{takes_none}
 
 -- how such a message is read
 abbrev pub of_requests : ℕ → Rules
@@ -45,7 +45,7 @@ counts text h is =
     small : (n : ℕ) → n ≤ 16384 → n ≡ past 0 n
     small n few = grind arith
 
-under_behind : (place : ℕ) (before : Option (List ℕ)) (text : List ℕ) (h : HeadState) (stage : Stage) → IsHeadIn text h
+under_behind : (place : ℕ) (before : Flow) (text : List ℕ) (h : HeadState) (stage : Stage) → IsHeadIn text h
     → BeginsBody (of_requests place) h.head h.body (past place h.skipped) (past place h.size) (On stage)
     → Under (of_requests place) before before text [] stage h.size
 under_behind place before text h stage is begins =
@@ -54,7 +54,7 @@ under_behind place before text h stage is begins =
     record {
       got = [];
       gone = text;
-      taken = takes_none before;
+      taken = came_none before;
       split = refl;
       stands = begins.0;
       counts = omega arith;
@@ -63,7 +63,7 @@ under_behind place before text h stage is begins =
           (behind_frame place text h is more ended frame (begins.2 more ended frame r));
     }
 
-whole_behind : (place : ℕ) (before : Option (List ℕ)) (text : List ℕ) (h : HeadState) (m : Message) → IsHeadIn text h
+whole_behind : (place : ℕ) (before : Flow) (text : List ℕ) (h : HeadState) (m : Message) → IsHeadIn text h
     → BeginsBody (of_requests place) h.head h.body (past place h.skipped) (past place h.size) (All m)
     → ReadOf Requests most_body_bytes place text before before [] h.size (Ok (Some m))
 whole_behind place before text h m is begins = record {
@@ -71,8 +71,8 @@ whole_behind place before text h m is begins = record {
     ended = false;
     reading = record {
       got = [];
-      taken = takes_none before;
-      told = λ h. never (IfSome before (λ rest. rest ≡ [])) h;
+      taken = came_none before;
+      told = λ h. never (IsDry before) h;
       is_frame = behind_frame place text h is [] false (Given m []) (begins [] false);
     };
     of_message = text;
@@ -84,7 +84,7 @@ whole_behind place before text h m is begins = record {
   fault = tt;
   spends = record {
     got = [];
-    taken = takes_none before;
+    taken = came_none before;
     few = omega arith;
     gone = text;
     split = refl;
@@ -103,16 +103,16 @@ begins_of place h t first next begun parts f n begins =
     subst (λ (t : Head × Length × ℕ × ℕ). BeginsBody (of_requests place) t.0 t.1 (past place t.2) (past place t.3) begun) parts
     (subst (λ (z : ℕ × ℕ). BeginsBody (of_requests place) t.0 t.1 z.0 z.1 begun) (λ i. (f i, n i)) begins)
 
-pub goes_behind : (place : ℕ) (before : Option (List ℕ)) (window : List ℕ) (h : HeadState) (t : Head × Length × ℕ × ℕ) (first next : ℕ) (stage : Stage) → window ≡ [] → (is : IsRead h)
+pub goes_behind : (place : ℕ) (before : Flow) (window : List ℕ) (h : HeadState) (t : Head × Length × ℕ × ℕ) (first next : ℕ) (stage : Stage) → window ≡ [] → (is : IsRead h)
     → t ≡ (h.head, h.body, h.skipped, h.size) → first ≡ past place t.2 → next ≡ past place t.3
-    → BeginsBody (of_requests place) t.0 t.1 first next (On stage) → Under (of_requests place) before before is.text window stage t.3
+    → BeginsBody (of_requests place) t.0 t.1 first next (On stage) → Under (of_requests place) before before h.text window stage t.3
 goes_behind place before window h t first next stage none is parts f n begins =
-    subst (λ (z : List ℕ × ℕ). Under (of_requests place) before before is.text z.0 stage z.1) (λ i. (sym none i, (sym parts i).3))
-    (under_behind place before is.text h stage is.is_in (begins_of place h t first next (On stage) parts f n begins))
+    subst (λ (z : List ℕ × ℕ). Under (of_requests place) before before h.text z.0 stage z.1) (λ i. (sym none i, (sym parts i).3))
+    (under_behind place before h.text h stage is (begins_of place h t first next (On stage) parts f n begins))
 
-pub given_behind : (place : ℕ) (before : Option (List ℕ)) (window : List ℕ) (h : HeadState) (t : Head × Length × ℕ × ℕ) (first next : ℕ) (m : Message) → window ≡ [] → (is : IsRead h)
+pub given_behind : (place : ℕ) (before : Flow) (window : List ℕ) (h : HeadState) (t : Head × Length × ℕ × ℕ) (first next : ℕ) (m : Message) → window ≡ [] → (is : IsRead h)
     → t ≡ (h.head, h.body, h.skipped, h.size) → first ≡ past place t.2 → next ≡ past place t.3
-    → BeginsBody (of_requests place) t.0 t.1 first next (All m) → ReadOf Requests most_body_bytes place is.text before before window t.3 (Ok (Some m))
+    → BeginsBody (of_requests place) t.0 t.1 first next (All m) → ReadOf Requests most_body_bytes place h.text before before window t.3 (Ok (Some m))
 given_behind place before window h t first next m none is parts f n begins =
-    subst (λ (z : List ℕ × ℕ). ReadOf Requests most_body_bytes place is.text before before z.0 z.1 (Ok (Some m))) (λ i. (sym none i, (sym parts i).3))
-    (whole_behind place before is.text h m is.is_in (begins_of place h t first next (All m) parts f n begins))
+    subst (λ (z : List ℕ × ℕ). ReadOf Requests most_body_bytes place h.text before before z.0 z.1 (Ok (Some m))) (λ i. (sym none i, (sym parts i).3))
+    (whole_behind place before h.text h m is (begins_of place h t first next (All m) parts f n begins))

@@ -2,8 +2,8 @@
 use Rattle.std.proofs.Common.{◌≡◌, ℕ, ◌+◌, ◌-◌, ◌≤◌, List, [], ◌++◌, length, take, drop, Bool, true, false, Option, Some, None, Result, Ok, Err, refl, sym, ap, ◌∙◌, subst, arith, append_assoc, append-nil, length-append, inl, inr}
 use Rattle.std.specs.Prelude.{IfSome, IfOk, IfErr}
 use Rattle.std.proofs.lemmas.List.{take-append-drop, length-take-le, drop-take, drop-drop, length-drop}
-use Rattle.ocm_base.specs.Outside.{Takes}
-use Rattle.ocm_base.proofs.Pieces.{Takes-twice}
+use Rattle.ocm_base.specs.Outside.{Flow, Came, IsDry, flow}
+use Rattle.ocm_base.proofs.Pieces.{came_none, came_twice}
 use Rattle.ocm_limits.specs.Limits.{most_body_bytes}
 use Rattle.ocm_http_heads.specs.Endings.{of_head}
 use Rattle.ocm_http.specs.Places.{past}
@@ -36,15 +36,15 @@ window_size bytes from to h k =
 
 -- ---- a message under way
 
-pub takes_none : (before : Option (List ℕ)) → Takes before before []
-takes_none None = refl
-takes_none (Some rest) = refl
+-- a source that told the same gave no bytes
+pub came_same : (l k r s : Option (List ℕ)) → k ≡ l → s ≡ r → Came (flow l r) (flow k s) []
+came_same l k r s e f = subst (λ (z : Option (List ℕ) × Option (List ℕ)). Came (flow l r) (flow z.0 z.1) []) (λ i. (sym e i, sym f i)) (came_none (flow l r))
 
-pub under_start : (rules : Rules) (before : Option (List ℕ)) (held : List ℕ) → Under rules before before held held (stage.Head [] of_head) 0
+pub under_start : (rules : Rules) (before : Flow) (held : List ℕ) → Under rules before before held held (stage.Head [] of_head) 0
 under_start rules before held = record {
   got = [];
   gone = [];
-  taken = takes_none before;
+  taken = came_none before;
   split = append-nil held;
   stands = (refl, refl, refl);
   counts = omega arith;
@@ -52,14 +52,14 @@ under_start rules before held = record {
   rest = λ more ended frame r. subst (λ b. IsFrame rules.kind rules.max rules.place (b ++ more) ended frame) (sym (append-nil held)) r;
 }
 
-pub under_filled : (rules : Rules) (before mid after : Option (List ℕ)) (held left next : List ℕ) (at_stage : Stage) (spent : ℕ) (bytes : List ℕ)
-    → Under rules before mid held left at_stage spent → Takes mid after bytes → next ≡ left ++ bytes → Under rules before after held next at_stage spent
+pub under_filled : (rules : Rules) (before mid after : Flow) (held left next : List ℕ) (at_stage : Stage) (spent : ℕ) (bytes : List ℕ)
+    → Under rules before mid held left at_stage spent → Came mid after bytes → next ≡ left ++ bytes → Under rules before after held next at_stage spent
 under_filled rules before mid after held left next at_stage spent bytes u takes more_left =
     let joined : held ++ (u.got ++ bytes) ≡ (held ++ u.got) ++ bytes = sym (append_assoc held u.got bytes) in
     record {
       got = u.got ++ bytes;
       gone = u.gone;
-      taken = Takes-twice before mid after u.got bytes u.taken takes;
+      taken = came_twice before mid after u.got bytes u.taken takes;
       split = joined ∙ (ap (λ l. l ++ bytes) u.split ∙ (append_assoc u.gone left bytes ∙ ap (λ l. u.gone ++ l) (sym more_left)));
       stands = u.stands;
       counts = u.counts;
@@ -80,7 +80,7 @@ gone_size gone left n h = length-append gone (take n left) ∙ ap (λ k. length 
 gone_count : (gone left : List ℕ) (n spent : ℕ) → n ≤ length left → spent ≡ past 0 (length gone) → past spent n ≡ past 0 (length (gone ++ take n left))
 gone_count gone left n spent h s = ap (λ k. past k n) s ∙ (past_twice 0 (length gone) n ∙ ap (past 0) (sym (gone_size gone left n h)))
 
-pub under_fed : (rules : Rules) (before after : Option (List ℕ)) (held left : List ℕ) (at_stage next : Stage) (spent n : ℕ)
+pub under_fed : (rules : Rules) (before after : Flow) (held left : List ℕ) (at_stage next : Stage) (spent n : ℕ)
     → Under rules before after held left at_stage spent → Goes rules at_stage next left n → Under rules before after held (drop n left) next (past spent n)
 under_fed rules before after held left at_stage next spent n u goes =
     let size : length (u.gone ++ take n left) ≡ length u.gone + n = gone_size u.gone left n goes.within in
@@ -98,7 +98,7 @@ under_fed rules before after held left at_stage next spent n u goes =
     }
 
 -- what a frame is, with nothing behind
-whole_frame : (rules : Rules) (before after : Option (List ℕ)) (held left : List ℕ) (at_stage : Stage) (spent : ℕ) (ended : Bool) (frame : Frame)
+whole_frame : (rules : Rules) (before after : Flow) (held left : List ℕ) (at_stage : Stage) (spent : ℕ) (ended : Bool) (frame : Frame)
     → (u : Under rules before after held left at_stage spent) → Rest rules at_stage (left ++ []) ended frame → IsFrame rules.kind rules.max rules.place (held ++ u.got) ended frame
 whole_frame rules before after held left at_stage spent ended frame u r =
     subst (λ b. IsFrame rules.kind rules.max rules.place b ended frame) (append-nil (held ++ u.got)) (u.rest [] ended frame r)
@@ -106,7 +106,7 @@ whole_frame rules before after held left at_stage spent ended frame u r =
 never : (P : Type 0) → (false ≡ true) → P
 never P h = cc
 
-pub under_given : (rules : Rules) (before after : Option (List ℕ)) (held left : List ℕ) (at_stage : Stage) (spent n : ℕ) (m : Message)
+pub under_given : (rules : Rules) (before after : Flow) (held left : List ℕ) (at_stage : Stage) (spent n : ℕ) (m : Message)
     → Under rules before after held left at_stage spent → Makes rules at_stage m left n
     → MessageOf rules.kind rules.max rules.place held before after (Given m (drop n left)) (drop n left) 0 (past spent n)
 under_given rules before after held left at_stage spent n m u makes = record {
@@ -114,7 +114,7 @@ under_given rules before after held left at_stage spent n m u makes = record {
   reading = record {
     got = u.got;
     taken = u.taken;
-    told = λ h. never (IfSome after (λ rest. rest ≡ [])) h;
+    told = λ h. never (IsDry after) h;
     is_frame = whole_frame rules before after held left at_stage spent false (Given m (drop n left)) u
         (subst (λ b. Rest rules at_stage (left ++ []) false (Given m b)) (append-nil (drop n left)) (makes.rest [] false));
   };
@@ -123,8 +123,8 @@ under_given rules before after held left at_stage spent n m u makes = record {
   counted = gone_count u.gone left n spent makes.within u.spent_is;
 }
 
-pub under_ended : (rules : Rules) (before after : Option (List ℕ)) (held left : List ℕ) (at_stage : Stage) (spent : ℕ) (frame : Frame)
-    → Under rules before after held left at_stage spent → left ≡ [] → IfSome after (λ rest. rest ≡ []) → Rest rules at_stage [] true frame
+pub under_ended : (rules : Rules) (before after : Flow) (held left : List ℕ) (at_stage : Stage) (spent : ℕ) (frame : Frame)
+    → Under rules before after held left at_stage spent → left ≡ [] → IsDry after → Rest rules at_stage [] true frame
     → ReadingOf rules.kind rules.max rules.place held before after true frame
 under_ended rules before after held left at_stage spent frame u none told r = record {
   got = u.got;
@@ -133,8 +133,8 @@ under_ended rules before after held left at_stage spent frame u none told r = re
   is_frame = whole_frame rules before after held left at_stage spent true frame u (subst (λ b. Rest rules at_stage b true frame) (sym (append-nil left ∙ none)) r);
 }
 
-pub under_last : (rules : Rules) (before after : Option (List ℕ)) (held left : List ℕ) (at_stage : Stage) (spent : ℕ) (m : Message)
-    → Under rules before after held left at_stage spent → left ≡ [] → IfSome after (λ rest. rest ≡ []) → Rest rules at_stage [] true (Given m [])
+pub under_last : (rules : Rules) (before after : Flow) (held left : List ℕ) (at_stage : Stage) (spent : ℕ) (m : Message)
+    → Under rules before after held left at_stage spent → left ≡ [] → IsDry after → Rest rules at_stage [] true (Given m [])
     → MessageOf rules.kind rules.max rules.place held before after (Given m left) left 0 spent
 under_last rules before after held left at_stage spent m u none told r = record {
   ended = true;
@@ -150,7 +150,7 @@ under_last rules before after held left at_stage spent m u none told r = record 
   counted = u.spent_is;
 }
 
-pub under_fault : (rules : Rules) (before after : Option (List ℕ)) (held left : List ℕ) (at_stage : Stage) (spent : ℕ) (fault : FrameFault)
+pub under_fault : (rules : Rules) (before after : Flow) (held left : List ℕ) (at_stage : Stage) (spent : ℕ) (fault : FrameFault)
     → Under rules before after held left at_stage spent → Faults rules at_stage left fault → ((fault ≡ NoMemory) → ⊥)
     → (ended : Bool) × ReadingOf rules.kind rules.max rules.place held before after ended (Refused fault)
 under_fault rules before after held left at_stage spent fault u faults other = (
@@ -158,12 +158,12 @@ under_fault rules before after held left at_stage spent fault u faults other = (
   record {
     got = u.got;
     taken = u.taken;
-    told = λ h. never (IfSome after (λ rest. rest ≡ [])) h;
+    told = λ h. never (IsDry after) h;
     is_frame = whole_frame rules before after held left at_stage spent false (Refused fault) u (faults.rest other [] false);
   },
 )
 
-pub under_spends : (rules : Rules) (before after : Option (List ℕ)) (held left : List ℕ) (at_stage : Stage) (spent : ℕ)
+pub under_spends : (rules : Rules) (before after : Flow) (held left : List ℕ) (at_stage : Stage) (spent : ℕ)
     → Under rules before after held left at_stage spent → length left ≤ 4096 → Spends rules.max held before after left spent
 under_spends rules before after held left at_stage spent u few =
     let size : length held + length u.got ≡ length u.gone + length left = sym (length-append held u.got) ∙ (ap length u.split ∙ length-append u.gone left) in
@@ -177,7 +177,7 @@ under_spends rules before after held left at_stage spent u few =
       counted = u.spent_is;
     }
 
-pub under_spent : (rules : Rules) (before after : Option (List ℕ)) (held left : List ℕ) (at_stage : Stage) (spent n : ℕ) (m : Message)
+pub under_spent : (rules : Rules) (before after : Flow) (held left : List ℕ) (at_stage : Stage) (spent n : ℕ) (m : Message)
     → Under rules before after held left at_stage spent → length left ≤ 4096 → Makes rules at_stage m left n → Spends rules.max held before after (drop n left) (past spent n)
 unfolding under_spends
 under_spent rules before after held left at_stage spent n m u few makes =
@@ -192,7 +192,7 @@ under_spent rules before after held left at_stage spent n m u few makes =
     }
 
 -- the count of a message's bytes, past the place where it began
-pub placed : (kind : Kind) (max place : ℕ) (held : List ℕ) (before after : Option (List ℕ)) (frame : Frame) (left : List ℕ) (count : ℕ)
+pub placed : (kind : Kind) (max place : ℕ) (held : List ℕ) (before after : Flow) (frame : Frame) (left : List ℕ) (count : ℕ)
     → MessageOf kind max place held before after frame left 0 count → MessageOf kind max place held before after frame left place (past place count)
 placed kind max place held before after frame left count m = record {
   ended = m.ended;
@@ -206,15 +206,15 @@ placed kind max place held before after frame left count m = record {
     past_of_past p n = grind arith
 
 -- what the end of input makes of a message, where it makes one
-pub ended_message : (rules : Rules) (before after : Option (List ℕ)) (held left : List ℕ) (at_stage : Stage) (spent : ℕ) (r : Result (Option Message) FrameFault)
-    → Under rules before after held left at_stage spent → left ≡ [] → IfSome after (λ rest. rest ≡ []) → IfOk r (Ends rules at_stage)
+pub ended_message : (rules : Rules) (before after : Flow) (held left : List ℕ) (at_stage : Stage) (spent : ℕ) (r : Result (Option Message) FrameFault)
+    → Under rules before after held left at_stage spent → left ≡ [] → IsDry after → IfOk r (Ends rules at_stage)
     → IfOk r (λ o. IfSome o (λ m. MessageOf rules.kind rules.max rules.place held before after (Given m left) left 0 spent))
 ended_message rules before after held left at_stage spent (Ok None) u none told ends = tt
 ended_message rules before after held left at_stage spent (Ok (Some m)) u none told ends = under_last rules before after held left at_stage spent m u none told ends
 ended_message rules before after held left at_stage spent (Err f) u none told ends = tt
 
-pub ended_over : (rules : Rules) (before after : Option (List ℕ)) (held left : List ℕ) (at_stage : Stage) (spent : ℕ) (r : Result (Option Message) FrameFault)
-    → Under rules before after held left at_stage spent → left ≡ [] → IfSome after (λ rest. rest ≡ []) → IfOk r (Ends rules at_stage)
+pub ended_over : (rules : Rules) (before after : Flow) (held left : List ℕ) (at_stage : Stage) (spent : ℕ) (r : Result (Option Message) FrameFault)
+    → Under rules before after held left at_stage spent → left ≡ [] → IsDry after → IfOk r (Ends rules at_stage)
     → IfOk r (λ o. o ≡ None → ReadingOf rules.kind rules.max rules.place held before after true Over)
 ended_over rules before after held left at_stage spent (Ok None) u none told ends = λ _. under_ended rules before after held left at_stage spent Over u none told ends
 ended_over rules before after held left at_stage spent (Ok (Some m)) u none told ends = λ h. cc
@@ -223,11 +223,11 @@ ended_over rules before after held left at_stage spent (Err f) u none told ends 
 -- ---- what a reader holds
 
 -- the bytes that were taken, and what is kept of them
-abbrev pub Kept : ReaderState → ReaderState → Option (List ℕ) → Option (List ℕ) → Result (Option Message) FrameFault → Type 0
-Kept old new before after result = (got : List ℕ) × Takes before after got × (length got ≤ taken_at_most old.max) × Keeps old new got result
+abbrev pub Kept : ReaderState → ReaderState → Flow → Flow → Result (Option Message) FrameFault → Type 0
+Kept old new before after result = (got : List ℕ) × Came before after got × (length got ≤ taken_at_most old.max) × Keeps old new got result
 
 -- what was held and taken is gone or left
-sizes : (max : ℕ) (held left : List ℕ) (before after : Option (List ℕ)) (count : ℕ) → (s : Spends max held before after left count)
+sizes : (max : ℕ) (held left : List ℕ) (before after : Flow) (count : ℕ) → (s : Spends max held before after left count)
     → length held + length s.got ≡ length s.gone + length left
 sizes max held left before after count s = sym (length-append held s.got) ∙ (ap length s.split ∙ length-append s.gone left)
 
@@ -237,17 +237,17 @@ past_none place n = grind arith
 past_moved : (place held got gone left : ℕ) → held + got ≡ gone + left → past (past place (past 0 gone)) left ≡ past (past place held) got
 past_moved place held got gone left e = grind arith
 
-all_held : (old new : ReaderState) (before after : Option (List ℕ)) (count : ℕ) → (s : Spends old.max old.held before after new.held count) → new.gone ≡ past old.gone count
+all_held : (old new : ReaderState) (before after : Flow) (count : ℕ) → (s : Spends old.max old.held before after new.held count) → new.gone ≡ past old.gone count
     → holding new ≡ past (holding old) (length s.got)
 all_held old new before after count s e =
     ap (λ n. past n (length new.held)) (e ∙ ap (past old.gone) s.counted)
     ∙ past_moved old.gone (length old.held) (length s.got) (length s.gone) (length new.held) (sizes old.max old.held new.held before after count s)
 
-pub kept_fault : (old new : ReaderState) (before after : Option (List ℕ)) (count : ℕ) (fault : FrameFault) → Spends old.max old.held before after new.held count
+pub kept_fault : (old new : ReaderState) (before after : Flow) (count : ℕ) (fault : FrameFault) → Spends old.max old.held before after new.held count
     → new.gone ≡ past old.gone count → new.place ≡ old.place → Kept old new before after (Err fault)
 kept_fault old new before after count fault s e place = (s.got, s.taken, s.few, (all_held old new before after count s e, place))
 
-pub kept_none : (old new : ReaderState) (before after : Option (List ℕ)) (count : ℕ) → Spends old.max old.held before after new.held count
+pub kept_none : (old new : ReaderState) (before after : Flow) (count : ℕ) → Spends old.max old.held before after new.held count
     → new.gone ≡ past old.gone count → new.held ≡ [] → new.place ≡ past old.place count → Kept old new before after (Ok None)
 kept_none old new before after count s e none place =
     let size = sizes old.max old.held new.held before after count s in
@@ -263,7 +263,7 @@ kept_none old new before after count s e none place =
       ),
     )
 
-pub kept_some : (old new : ReaderState) (before after : Option (List ℕ)) (count : ℕ) (m : Message) → Spends old.max old.held before after new.held count
+pub kept_some : (old new : ReaderState) (before after : Flow) (count : ℕ) (m : Message) → Spends old.max old.held before after new.held count
     → new.gone ≡ 0 → length new.held ≤ 4096 → new.place ≡ past old.place count → Kept old new before after (Ok (Some m))
 kept_some old new before after count m s e few place = (
   s.got,
@@ -282,8 +282,8 @@ kept_some old new before after count m s e few place = (
 
 -- ---- all that a reading gave
 
-ended_fault : (rules : Rules) (before after : Option (List ℕ)) (held left : List ℕ) (at_stage : Stage) (spent : ℕ) (r : Result (Option Message) FrameFault)
-    → Under rules before after held left at_stage spent → left ≡ [] → IfSome after (λ rest. rest ≡ []) → IfErr r (λ f. Rest rules at_stage [] true (Refused f))
+ended_fault : (rules : Rules) (before after : Flow) (held left : List ℕ) (at_stage : Stage) (spent : ℕ) (r : Result (Option Message) FrameFault)
+    → Under rules before after held left at_stage spent → left ≡ [] → IsDry after → IfErr r (λ f. Rest rules at_stage [] true (Refused f))
     → IfErr r (λ f. ((f ≡ ReadFault) → ⊥) → ((f ≡ NoMemory) → ⊥) → (ended : Bool) × ReadingOf rules.kind rules.max rules.place held before after ended (Refused f))
 ended_fault rules before after held left at_stage spent (Ok o) u none told ends = tt
 ended_fault rules before after held left at_stage spent (Err f) u none told ends = λ _ _. (true, under_ended rules before after held left at_stage spent (Refused f) u none told ends)
@@ -292,8 +292,8 @@ ended_empty : (left : List ℕ) (r : Result (Option Message) FrameFault) → lef
 ended_empty left (Ok o) none = λ _. none
 ended_empty left (Err f) none = tt
 
-pub read_ended : (rules : Rules) (before after : Option (List ℕ)) (held left : List ℕ) (at_stage : Stage) (spent : ℕ) (r : Result (Option Message) FrameFault)
-    → Under rules before after held left at_stage spent → length left ≤ 4096 → left ≡ [] → IfSome after (λ rest. rest ≡ []) → IfOk r (Ends rules at_stage) → IfErr r (λ f. Rest rules at_stage [] true (Refused f))
+pub read_ended : (rules : Rules) (before after : Flow) (held left : List ℕ) (at_stage : Stage) (spent : ℕ) (r : Result (Option Message) FrameFault)
+    → Under rules before after held left at_stage spent → length left ≤ 4096 → left ≡ [] → IsDry after → IfOk r (Ends rules at_stage) → IfErr r (λ f. Rest rules at_stage [] true (Refused f))
     → ReadOf rules.kind rules.max rules.place held before after left spent r
 read_ended rules before after held left at_stage spent r u few none told ends refused = record {
   message = ended_message rules before after held left at_stage spent r u none told ends;
@@ -303,7 +303,7 @@ read_ended rules before after held left at_stage spent r u few none told ends re
   spends = under_spends rules before after held left at_stage spent u few;
 }
 
-pub read_failed : (rules : Rules) (before after : Option (List ℕ)) (held left : List ℕ) (at_stage : Stage) (spent : ℕ)
+pub read_failed : (rules : Rules) (before after : Flow) (held left : List ℕ) (at_stage : Stage) (spent : ℕ)
     → Under rules before after held left at_stage spent → length left ≤ 4096 → ReadOf rules.kind rules.max rules.place held before after left spent (Err ReadFault)
 read_failed rules before after held left at_stage spent u few = record {
   message = tt;
@@ -313,7 +313,7 @@ read_failed rules before after held left at_stage spent u few = record {
   spends = under_spends rules before after held left at_stage spent u few;
 }
 
-pub read_refused : (rules : Rules) (before after : Option (List ℕ)) (held left : List ℕ) (at_stage : Stage) (spent : ℕ) (fault : FrameFault)
+pub read_refused : (rules : Rules) (before after : Flow) (held left : List ℕ) (at_stage : Stage) (spent : ℕ) (fault : FrameFault)
     → Under rules before after held left at_stage spent → length left ≤ 4096 → Faults rules at_stage left fault → ReadOf rules.kind rules.max rules.place held before after left spent (Err fault)
 read_refused rules before after held left at_stage spent fault u few faults = record {
   message = tt;
@@ -323,7 +323,7 @@ read_refused rules before after held left at_stage spent fault u few faults = re
   spends = under_spends rules before after held left at_stage spent u few;
 }
 
-pub read_given : (rules : Rules) (before after : Option (List ℕ)) (held left : List ℕ) (at_stage : Stage) (spent n : ℕ) (m : Message)
+pub read_given : (rules : Rules) (before after : Flow) (held left : List ℕ) (at_stage : Stage) (spent n : ℕ) (m : Message)
     → Under rules before after held left at_stage spent → length left ≤ 4096 → Makes rules at_stage m left n
     → ReadOf rules.kind rules.max rules.place held before after (drop n left) (past spent n) (Ok (Some m))
 read_given rules before after held left at_stage spent n m u few makes = record {
@@ -336,7 +336,7 @@ read_given rules before after held left at_stage spent n m u few makes = record 
 
 -- ---- a reader that read
 
-next_same : (old : ReaderState) (held : List ℕ) (before after : Option (List ℕ)) (count : ℕ) (r : Result (Option Message) FrameFault) → length held ≤ 4096
+next_same : (old : ReaderState) (held : List ℕ) (before after : Flow) (count : ℕ) (r : Result (Option Message) FrameFault) → length held ≤ 4096
     → ReadOf old.kind old.max old.place old.held before after held count r → NextOf old (settled (with_held old held) count r) before after r
 next_same old held before after count (Ok (Some m)) few read = record {
   message = placed old.kind old.max old.place old.held before after (Given m held) held count read.message;
@@ -358,7 +358,7 @@ next_same old held before after count (Err f) few read = record {
 }
 
 -- what a reader answers of what was read
-pub next_of : (old : ReaderState) (held : List ℕ) (before after : Option (List ℕ)) (count : ℕ) (read r : Result (Option Message) FrameFault) → length held ≤ 4096
+pub next_of : (old : ReaderState) (held : List ℕ) (before after : Flow) (count : ℕ) (read r : Result (Option Message) FrameFault) → length held ≤ 4096
     → ReadOf old.kind old.max old.place old.held before after held count read → Settles read r → NextOf old (settled (with_held old held) count r) before after r
 next_of old held before after count read r few is settles = elim settles [
   | inl same ↦ subst (λ r. NextOf old (settled (with_held old held) count r) before after r) (sym same) (next_same old held before after count read few is)
@@ -371,13 +371,13 @@ next_of old held before after count read r few is settles = elim settles [
 ]
 
 -- the same, where the reader was this before and is that after
-pub next_told : (old self new : ReaderState) (held : List ℕ) (before after : Option (List ℕ)) (count : ℕ) (read r : Result (Option Message) FrameFault) → old ≡ self → length held ≤ 4096
+pub next_told : (old self new : ReaderState) (held : List ℕ) (before after : Flow) (count : ℕ) (read r : Result (Option Message) FrameFault) → old ≡ self → length held ≤ 4096
     → ReadOf old.kind old.max old.place old.held before after held count read → Settles read r → new ≡ settled (with_held old held) count r → NextOf self new before after r
 next_told old self new held before after count read r same few is settles is_new =
     subst (λ (z : ReaderState × ReaderState). NextOf z.0 z.1 before after r) (λ i. (same i, sym is_new i)) (next_of old held before after count read r few is settles)
 
 -- the same of a request whose head is these bytes
-pub behind_told : (old self new : ReaderState) (text held : List ℕ) (before after : Option (List ℕ)) (count : ℕ) (read r : Result (Option Message) FrameFault) → old ≡ self → self.kind ≡ Requests → self.max ≡ most_body_bytes
+pub behind_told : (old self new : ReaderState) (text held : List ℕ) (before after : Flow) (count : ℕ) (read r : Result (Option Message) FrameFault) → old ≡ self → self.kind ≡ Requests → self.max ≡ most_body_bytes
     → length held ≤ 4096 → ReadOf Requests most_body_bytes old.place text before after held count read → Settles read r → new ≡ settled (with_held old held) count r → NextOf (with_held self text) new before after r
 behind_told old self new text held before after count read r same kind max few is settles is_new =
     let kinds : Requests ≡ old.kind = sym (ap (λ (s : ReaderState). s.kind) same ∙ kind) in

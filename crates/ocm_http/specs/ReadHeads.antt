@@ -8,12 +8,13 @@ use Rattle.ocm_http_heads.specs.declared.fields.Head.{Head}
 use Rattle.ocm_http_heads.specs.declared.lengths.Length.{Length}
 use Rattle.ocm_http.specs.Messages.{length_of}
 
--- a head, how the end of its body is known, how many CR and LF stand before it, and how many bytes it has with these
+-- a head, how the end of its body is known, how many CR and LF stand before it, how many bytes it has with these, and these bytes
 pub record HeadState : Type 0 where
   pub head : Head
   pub body : Length
   pub skipped : ℕ
   pub size : ℕ
+  pub text : List ℕ
 
 -- it is the head of a request that these bytes are, to their end
 pub record IsHeadIn (text : List ℕ) (h : HeadState) : Type 0 where
@@ -23,7 +24,6 @@ pub record IsHeadIn (text : List ℕ) (h : HeadState) : Type 0 where
   pub says : SaysRequest (drop (blanks text) text) (Some h.head)
   pub told : length_of most_body_bytes h.head ≡ Ok h.body
 
--- some bytes are that head
-pub record IsRead (h : HeadState) : Type 0 where
-  pub text : List ℕ
-  pub is_in : IsHeadIn text h
+-- its bytes are that head
+abbrev pub IsRead : HeadState → Type 0
+IsRead h = IsHeadIn h.text h

@@ -1,6 +1,6 @@
 -- What a reader reads of its source.
 use Rattle.std.specs.Prelude.{◌≡◌, ℕ, ◌+◌, ◌*◌, ◌≤◌, ◌⊎◌, Bool, true, List, [], ◌++◌, length, Option, Some, None, Result, Ok, Err, IfOk, IfErr, IfSome, IsTrue}
-use Rattle.ocm_base.specs.Outside.{Takes}
+use Rattle.ocm_base.specs.Outside.{Flow, Came, IsDry}
 use Rattle.ocm_http.specs.Places.{past}
 use Rattle.ocm_http.specs.Frames.{Frame, Given, Refused, Over, IsFrame}
 use Rattle.ocm_http.specs.Stages.{Stands, Rest, budget}
@@ -41,15 +41,15 @@ Keeps old new got (Ok None) =
 Keeps old new got (Err fault) = (holding new ≡ past (holding old) (length got)) × (new.place ≡ old.place)
 
 -- what was held and what was then taken from the source is this, where the input has ended or not
-pub record ReadingOf (kind : Kind) (max place : ℕ) (held : List ℕ) (before after : Option (List ℕ)) (ended : Bool) (frame : Frame) : Type 0 where
+pub record ReadingOf (kind : Kind) (max place : ℕ) (held : List ℕ) (before after : Flow) (ended : Bool) (frame : Frame) : Type 0 where
   pub got : List ℕ
-  pub taken : Takes before after got
-  pub told : IsTrue ended → IfSome after (λ rest. rest ≡ [])
+  pub taken : Came before after got
+  pub told : IsTrue ended → IsDry after
   pub is_frame : IsFrame kind max place (held ++ got) ended frame
 
 -- the same of a message, behind which these bytes are left: what was held and taken is the message's and these, and
 -- the count is that of the message's bytes past another
-pub record MessageOf (kind : Kind) (max place : ℕ) (held : List ℕ) (before after : Option (List ℕ)) (frame : Frame) (left : List ℕ) (base count : ℕ) : Type 0 where
+pub record MessageOf (kind : Kind) (max place : ℕ) (held : List ℕ) (before after : Flow) (frame : Frame) (left : List ℕ) (base count : ℕ) : Type 0 where
   pub ended : Bool
   pub reading : ReadingOf kind max place held before after ended frame
   pub of_message : List ℕ
@@ -58,9 +58,9 @@ pub record MessageOf (kind : Kind) (max place : ℕ) (held : List ℕ) (before a
 
 -- what the reading of one message took, whether it came to one or not: of what was held and taken so many bytes are gone,
 -- and the others are left
-pub record Spends (max : ℕ) (held : List ℕ) (before after : Option (List ℕ)) (left : List ℕ) (count : ℕ) : Type 0 where
+pub record Spends (max : ℕ) (held : List ℕ) (before after : Flow) (left : List ℕ) (count : ℕ) : Type 0 where
   pub got : List ℕ
-  pub taken : Takes before after got
+  pub taken : Came before after got
   pub few : length got ≤ taken_at_most max
   pub gone : List ℕ
   pub split : held ++ got ≡ gone ++ left
@@ -68,7 +68,7 @@ pub record Spends (max : ℕ) (held : List ℕ) (before after : Option (List ℕ
 
 -- all that the reading of one message gave: a message, behind which these bytes are left; the end of the input, and none are;
 -- or a fault
-pub record ReadOf (kind : Kind) (max place : ℕ) (held : List ℕ) (before after : Option (List ℕ)) (left : List ℕ) (count : ℕ) (result : Result (Option Message) FrameFault) : Type 0 where
+pub record ReadOf (kind : Kind) (max place : ℕ) (held : List ℕ) (before after : Flow) (left : List ℕ) (count : ℕ) (result : Result (Option Message) FrameFault) : Type 0 where
   pub message : IfOk result (λ o. IfSome o (λ m. MessageOf kind max place held before after (Given m left) left 0 count))
   pub over : IfOk result (λ o. o ≡ None → ReadingOf kind max place held before after true Over)
   pub emptied : IfOk result (λ o. o ≡ None → left ≡ [])
@@ -76,19 +76,19 @@ pub record ReadOf (kind : Kind) (max place : ℕ) (held : List ℕ) (before afte
   pub spends : Spends max held before after left count
 
 -- the same of a reader
-abbrev pub Reads : ReaderState → Option (List ℕ) → Option (List ℕ) → Bool → Frame → Type 0
+abbrev pub Reads : ReaderState → Flow → Flow → Bool → Frame → Type 0
 Reads reader before after ended frame = ReadingOf reader.kind reader.max reader.place reader.held before after ended frame
 
 -- the same of a reader that gave a message and then holds these bytes, at this place
-abbrev pub ReadsMessage : ReaderState → Option (List ℕ) → Option (List ℕ) → Frame → List ℕ → ℕ → Type 0
+abbrev pub ReadsMessage : ReaderState → Flow → Flow → Frame → List ℕ → ℕ → Type 0
 ReadsMessage reader before after frame left place =
     MessageOf reader.kind reader.max reader.place reader.held before after frame left reader.place place
 
 -- a message that is being read: what was taken of the source, what of that is gone, and what the rest means
-pub record Under (rules : Rules) (before after : Option (List ℕ)) (held left : List ℕ) (stage : Stage) (spent : ℕ) : Type 0 where
+pub record Under (rules : Rules) (before after : Flow) (held left : List ℕ) (stage : Stage) (spent : ℕ) : Type 0 where
   pub got : List ℕ
   pub gone : List ℕ
-  pub taken : Takes before after got
+  pub taken : Came before after got
   pub split : held ++ got ≡ gone ++ left
   pub stands : Stands rules stage
   pub counts : length gone + budget rules stage ≤ 24832 + 259 * rules.max
@@ -113,8 +113,8 @@ abbrev pub Settles : Result (Option Message) FrameFault → Result (Option Messa
 Settles read result = (result ≡ read) ⊎ (result ≡ Err NoMemory)
 
 -- what a reader gave of its next message, which was this before and that after
-pub record NextOf (old new : ReaderState) (before after : Option (List ℕ)) (result : Result (Option Message) FrameFault) : Type 0 where
+pub record NextOf (old new : ReaderState) (before after : Flow) (result : Result (Option Message) FrameFault) : Type 0 where
   pub message : IfOk result (λ o. IfSome o (λ m. ReadsMessage old before after (Given m new.held) new.held new.place))
   pub over : IfOk result (λ o. o ≡ None → Reads old before after true Over)
   pub fault : IfErr result (λ f. ((f ≡ ReadFault) → ⊥) → ((f ≡ NoMemory) → ⊥) → (ended : Bool) × Reads old before after ended (Refused f))
-  pub taken : (got : List ℕ) × Takes before after got × (length got ≤ taken_at_most old.max) × Keeps old new got result
+  pub taken : (got : List ℕ) × Came before after got × (length got ≤ taken_at_most old.max) × Keeps old new got result

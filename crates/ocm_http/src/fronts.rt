@@ -43,7 +43,7 @@ fn read_whole(alloc: Global, text: &[u8]) -> Result<Front, NoMemory>
         return Ok(Front::Refused);
     };
     match length_of(MOST_BODY_BYTES, &head) {
-        Ok(body) => Ok(Front::Whole(ReadHead::new(head, body, skipped, text.len()))),
+        Ok(body) => Ok(Front::Whole(ReadHead::new(head, body, skipped, text))),
         Err(_) => Ok(Front::Refused),
     }
 }

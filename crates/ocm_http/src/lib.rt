@@ -25,4 +25,4 @@ pub use messages::{FrameFault, Kind, Message};
 pub use ocm_http_heads::{Field, Head};
 pub use read_heads::ReadHead;
 pub use reader::Reader;
-pub use writing::{Fixed, write_fixed, write_reply, write_request};
+pub use writing::{Fixed, fixed_text, write_fixed, write_reply, write_request};

@@ -1,6 +1,7 @@
-ghost use Rattle.std.specs.Prelude.{◌≡◌};
+ghost use Rattle.std.specs.Prelude.{◌≡◌, length};
 ghost use Rattle.ocm_http.specs.ReadHeads as heads;
 
+use ocm_base::GhostBytes;
 use ocm_http_heads::{Head, Length};
 use std::marker::Model;
 
@@ -12,6 +13,7 @@ pub struct ReadHead {
     body: Length,
     skipped: usize,
     size: usize,
+    text: GhostBytes,
 }
 
 impl Model for ReadHead {
@@ -19,22 +21,23 @@ impl Model for ReadHead {
 
     ghost Value = { HeadState };
 
-    ghost view = { λ h. record { head = h.head; body = h.body; skipped = h.skipped; size = h.size } };
+    ghost view = { λ h. record { head = h.head; body = h.body; skipped = h.skipped; size = h.size; text = h.text.bytes } };
 
-    ghost invariant = { λ h. IsRead (record { head = h.head; body = h.body; skipped = h.skipped; size = h.size }) };
+    ghost invariant = { λ h. IsRead (record { head = h.head; body = h.body; skipped = h.skipped; size = h.size; text = h.text.bytes }) };
 }
 
 impl ReadHead {
-    /// A head that was read.
-    pub(crate) fn new(head: Head, body: Length, skipped: usize, size: usize) -> ReadHead
-        requires { heads.IsRead (record { head = head; body = body; skipped = skipped; size = size }) }
-        ensures { result ≡ record { head = head; body = body; skipped = skipped; size = size } }
+    /// A head that these bytes are.
+    pub(crate) fn new(head: Head, body: Length, skipped: usize, text: &[u8]) -> ReadHead
+        requires { heads.IsRead (record { head = head; body = body; skipped = skipped; size = length text.now; text = text.now }) }
+        ensures { result ≡ record { head = head; body = body; skipped = skipped; size = length text.now; text = text.now } }
     {
         ReadHead {
             head,
             body,
             skipped,
-            size,
+            size: text.len(),
+            text: GhostBytes::of(text),
         }
     }
 
@@ -66,8 +69,15 @@ impl ReadHead {
         self.size
     }
 
+    /// Its bytes, with the CR and LF before it.
+    pub fn text(&self) -> &GhostBytes
+        ensures { result.now.bytes ≡ self.now.text }
+    {
+        &self.text
+    }
+
     /// Its parts: what it says, how the end of its body is known, how many CR and LF stand before it, and how many bytes it
-    /// has with these. Some bytes are this head.
+    /// has with these. Its bytes are this head.
     pub(crate) fn into_parts(self) -> (Head, Length, usize, usize)
         ensures parts { result ≡ (self.head, self.body, self.skipped, self.size) }
         ensures read { heads.IsRead self }

@@ -1,5 +1,5 @@
 ghost use Rattle.std.specs.Prelude.{◌≡◌, ◌≤◌, ℕ, List, [], false, true, length, is_err, IfOk, IfErr, IfSome, IsFalse, None};
-ghost use Rattle.ocm_base.specs.Outside.{Rose, Takes};
+ghost use Rattle.ocm_base.specs.Outside.{Rose, Came, flow};
 ghost use Rattle.ocm_http.specs.Frames.{Given, Refused, Over};
 ghost use Rattle.ocm_limits.specs.Limits.{most_body_bytes};
 ghost use Rattle.ocm_http.specs.ReadHeads.{IsHeadIn};
@@ -95,12 +95,12 @@ impl Reader {
     /// message, also where the input had ended behind them before.
     pub fn next<S: Source>(&mut self, source: &mut S) -> Result<Option<Message>, FrameFault>
         requires { IsFalse self.old.failed }
-        ensures message { IfOk result (λ o. IfSome o (λ m. ReadsMessage self.old (S.left source.old) (S.left source.new) (Given m self.new.held) self.new.held self.new.place)) }
-        ensures over { IfOk result (λ o. o ≡ None → Reads self.old (S.left source.old) (S.left source.new) true Over) }
-        ensures fault { IfErr result (λ f. ((f ≡ FrameFault.ReadFault) → ⊥) → ((f ≡ FrameFault.NoMemory) → ⊥) → (ended : _) × Reads self.old (S.left source.old) (S.left source.new) ended (Refused f)) }
+        ensures message { IfOk result (λ o. IfSome o (λ m. ReadsMessage self.old (flow (S.left source.old) (S.received source.old)) (flow (S.left source.new) (S.received source.new)) (Given m self.new.held) self.new.held self.new.place)) }
+        ensures over { IfOk result (λ o. o ≡ None → Reads self.old (flow (S.left source.old) (S.received source.old)) (flow (S.left source.new) (S.received source.new)) true Over) }
+        ensures fault { IfErr result (λ f. ((f ≡ FrameFault.ReadFault) → ⊥) → ((f ≡ FrameFault.NoMemory) → ⊥) → (ended : _) × Reads self.old (flow (S.left source.old) (S.received source.old)) (flow (S.left source.new) (S.received source.new)) ended (Refused f)) }
         ensures read_fault { result ≡ Err FrameFault.ReadFault → Rose (S.faults source.old) (S.faults source.new) }
         ensures never_falls { S.faults source.old ≤ S.faults source.new }
-        ensures taken { (got : _) × Takes (S.left source.old) (S.left source.new) got × (length got ≤ taken_at_most self.old.max) × Keeps self.old self.new got result }
+        ensures taken { (got : _) × Came (flow (S.left source.old) (S.received source.old)) (flow (S.left source.new) (S.received source.new)) got × (length got ≤ taken_at_most self.old.max) × Keeps self.old self.new got result }
         ensures few_held { length self.new.held ≤ 4096 }
         ensures none_gone { IfOk result (λ o. IfSome o (λ _. self.new.gone ≡ 0)) }
         ensures failed { self.new.failed ≡ is_err result }
@@ -128,7 +128,8 @@ impl Reader {
         requires kind { self.old.kind ≡ Kind.Requests }
         requires max { self.old.max ≡ most_body_bytes }
         requires none_held { self.old.held ≡ [] }
-        ensures read { (text : List ℕ) × IsHeadIn text head × NextOf (with_held self.old text) self.new (S.left source.old) (S.left source.new) result }
+        ensures is_head { IsHeadIn head.text head }
+        ensures read { NextOf (with_held self.old head.text) self.new (flow (S.left source.old) (S.received source.old)) (flow (S.left source.new) (S.received source.new)) result }
         ensures read_fault { result ≡ Err FrameFault.ReadFault → Rose (S.faults source.old) (S.faults source.new) }
         ensures never_falls { S.faults source.old ≤ S.faults source.new }
         ensures few_held { length self.new.held ≤ 4096 }

@@ -1,5 +1,5 @@
 ghost use Rattle.std.specs.Prelude.{◌≡◌, ◌≤◌, [], List, ℕ, length};
-ghost use Rattle.ocm_base.specs.Outside.{Rose};
+ghost use Rattle.ocm_base.specs.Outside.{Rose, flow};
 ghost use Rattle.ocm_limits.specs.Limits.{most_body_bytes};
 ghost use Rattle.ocm_http.specs.Stages.{Stands};
 ghost use Rattle.ocm_http.specs.ReadHeads.{IsHeadIn};
@@ -22,7 +22,7 @@ pub(crate) fn read_message<S: Source>(
     gone: &mut u64,
 ) -> Result<Option<Message>, FrameFault>
     requires { gone.old ≡ 0 }
-    ensures read { ReadOf rules.kind rules.max rules.place window.old (S.left source.old) (S.left source.new) window.new gone.new result }
+    ensures read { ReadOf rules.kind rules.max rules.place window.old (flow (S.left source.old) (S.received source.old)) (flow (S.left source.new) (S.received source.new)) window.new gone.new result }
     ensures read_fault { result ≡ Err FrameFault.ReadFault → Rose (S.faults source.old) (S.faults source.new) }
     ensures never_falls { S.faults source.old ≤ S.faults source.new }
     ensures within { length window.new ≤ 4096 }
@@ -40,7 +40,8 @@ pub(crate) fn read_behind<S: Source>(
     head: ReadHead,
 ) -> Result<Option<Message>, FrameFault>
     requires { window.old ≡ [] }
-    ensures read { (text : List ℕ) × IsHeadIn text head × ReadOf Kind.Requests most_body_bytes place text (S.left source.old) (S.left source.new) window.new gone.new result }
+    ensures is_head { IsHeadIn head.text head }
+    ensures read { ReadOf Kind.Requests most_body_bytes place head.text (flow (S.left source.old) (S.received source.old)) (flow (S.left source.new) (S.received source.new)) window.new gone.new result }
     ensures read_fault { result ≡ Err FrameFault.ReadFault → Rose (S.faults source.old) (S.faults source.new) }
     ensures never_falls { S.faults source.old ≤ S.faults source.new }
     ensures within { length window.new ≤ 4096 }
@@ -70,7 +71,7 @@ fn read_on<S: Source>(
     mut stage: Stage,
 ) -> Result<Option<Message>, FrameFault>
     requires stands { Stands rules stage }
-    ensures read { (held : List ℕ) → Under rules (S.left source.old) (S.left source.old) held window.old stage gone.old → ReadOf rules.kind rules.max rules.place held (S.left source.old) (S.left source.new) window.new gone.new result }
+    ensures read { (held : List ℕ) → Under rules (flow (S.left source.old) (S.received source.old)) (flow (S.left source.old) (S.received source.old)) held window.old stage gone.old → ReadOf rules.kind rules.max rules.place held (flow (S.left source.old) (S.received source.old)) (flow (S.left source.new) (S.received source.new)) window.new gone.new result }
     ensures read_fault { result ≡ Err FrameFault.ReadFault → Rose (S.faults source.old) (S.faults source.new) }
     ensures never_falls { S.faults source.old ≤ S.faults source.new }
     ensures within { length window.new ≤ 4096 }

@@ -1,5 +1,5 @@
 ghost use Rattle.std.specs.Prelude.{◌≡◌, ◌<◌, ◌≤◌, ◌==◌, [], ◌++◌, ◌⊎◌, length, take, drop, IfOk, IfSome, OnOk, OnErr, true, false, Ok};
-ghost use Rattle.ocm_base.specs.Outside.{Rose, Takes};
+ghost use Rattle.ocm_base.specs.Outside.{Rose, Came, IsDry, flow};
 
 use ocm_base::{Failed, NoMemory, Source};
 use std::alloc::Global;
@@ -70,9 +70,9 @@ impl Window {
     /// Reads more, where there are none. Where the source fails there are still none.
     fn fill<S: Source>(&mut self, source: &mut S) -> Result<(), Failed>
         ensures within { length self.new ≤ 4096 }
-        ensures ok { OnOk result (Takes (S.left source.old) (S.left source.new) self.new) }
-        ensures ended { OnOk result (self.new ≡ [] → IfSome (S.left source.new) (λ rest. rest ≡ [])) }
-        ensures err { OnErr result ((S.left source.new ≡ S.left source.old) × (self.new ≡ [])) }
+        ensures ok { OnOk result (Came (flow (S.left source.old) (S.received source.old)) (flow (S.left source.new) (S.received source.new)) self.new) }
+        ensures ended { OnOk result (self.new ≡ [] → IsDry (flow (S.left source.new) (S.received source.new))) }
+        ensures err { OnErr result ((S.left source.new ≡ S.left source.old) × (S.received source.new ≡ S.received source.old) × (self.new ≡ [])) }
         ensures rose { OnErr result (Rose (S.faults source.old) (S.faults source.new)) }
         ensures never_falls { S.faults source.old ≤ S.faults source.new }
     {
@@ -84,11 +84,11 @@ impl Window {
 
     /// Reads more where there are none. Answers whether there are some; where there are none the input has ended.
     pub(crate) fn ready<S: Source>(&mut self, source: &mut S) -> Result<bool, Failed>
-        ensures taken { (got : _) × Takes (S.left source.old) (S.left source.new) got × (self.new ≡ self.old ++ got) × (length got ≤ 4096) × ((self.old ≡ []) ⊎ (got ≡ [])) }
+        ensures taken { (got : _) × Came (flow (S.left source.old) (S.received source.old)) (flow (S.left source.new) (S.received source.new)) got × (self.new ≡ self.old ++ got) × (length got ≤ 4096) × ((self.old ≡ []) ⊎ (got ≡ [])) }
         ensures within { length self.new ≤ 4096 }
         ensures some { result ≡ Ok true → 0 < length self.new }
         ensures none { result ≡ Ok false → self.new ≡ [] }
-        ensures ended { result ≡ Ok false → IfSome (S.left source.new) (λ rest. rest ≡ []) }
+        ensures ended { result ≡ Ok false → IsDry (flow (S.left source.new) (S.received source.new)) }
         ensures rose { OnErr result (Rose (S.faults source.old) (S.faults source.new)) }
         ensures never_falls { S.faults source.old ≤ S.faults source.new }
     {
@@ -105,9 +105,9 @@ fn read_few<S: Source>(source: &mut S, room: &mut [u8]) -> Result<usize, Failed>
     requires some { 0 < length room.old }
     requires few { length room.old ≤ 4096 }
     ensures within { IfOk result (λ n. n ≤ length room.old) }
-    ensures taken { IfOk result (λ n. Takes (S.left source.old) (S.left source.new) (take n room.new)) }
-    ensures ended { IfOk result (λ n. n ≡ 0 → IfSome (S.left source.new) (λ rest. rest ≡ [])) }
-    ensures err { OnErr result (S.left source.new ≡ S.left source.old) }
+    ensures taken { IfOk result (λ n. Came (flow (S.left source.old) (S.received source.old)) (flow (S.left source.new) (S.received source.new)) (take n room.new)) }
+    ensures ended { IfOk result (λ n. n ≡ 0 → IsDry (flow (S.left source.new) (S.received source.new))) }
+    ensures err { OnErr result ((S.left source.new ≡ S.left source.old) × (S.received source.new ≡ S.received source.old)) }
     ensures rose { OnErr result (Rose (S.faults source.old) (S.faults source.new)) }
     ensures never_falls { S.faults source.old ≤ S.faults source.new }
 {

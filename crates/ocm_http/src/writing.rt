@@ -204,7 +204,7 @@ pub fn write_reply(
 }
 
 /// The text of a fixed reply.
-fn fixed_text(which: Fixed) -> &'static [u8]
+pub fn fixed_text(which: Fixed) -> &'static [u8]
     ensures { result.now ≡ written.fixed which }
 {
     match which {

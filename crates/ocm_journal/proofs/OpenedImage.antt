@@ -1,8 +1,9 @@
 -- What was read of a disk's first bytes and of its live area is what the disk holds.
-use Rattle.std.proofs.Common.{◌≡◌, ◌≤◌, ◌<◌, ◌⊎◌, inl, inr, ℕ, ◌+◌, ◌-◌, min, Bool, true, false, not, nat_eq, nat_lt, if◌then◌else◌, List, [], ◌∷◌, ◌++◌, length, take, drop, get_or, Result, Ok, Err, IfOk, IfErr, refl, sym, ◌∙◌, ap, subst, arith}
+use Rattle.std.proofs.Common.{◌≡◌, ◌≤◌, ◌<◌, ◌⊎◌, inl, inr, ℕ, ◌+◌, ◌-◌, min, Bool, true, false, not, nat_eq, nat_lt, ◌==◌, if◌then◌else◌, List, [], ◌∷◌, ◌++◌, length, take, drop, get_or, Result, Ok, Err, IfOk, IfErr, refl, sym, ◌∙◌, ap, subst, arith}
 use Rattle.std.proofs.lemmas.List.{take_all, take_min, take-take, drop_all, length-drop, get_or-take}
 use Rattle.std.proofs.lemmas.Bool.Decides.{nat_tests}
 use Rattle.std.specs.Cmp.Lexicographic.{pointwise, bytes_decides}
+use Rattle.ocm_disk.specs.Disk.{SameBut}
 use Rattle.ocm_texts.specs.Hex.{AreBytes}
 use Rattle.ocm_journal_image.specs.declared.faults.ImageFault.{ImageFault}
 use Rattle.ocm_journal_image.specs.declared.faults.ImageFault.TheVariants as image_faults
@@ -44,6 +45,26 @@ front_header seen front len size few is are = elim (le_or_lt (length seen) 514) 
       ∙ sym (header_of_front len (length front) seen (let e : get_or front 8 0 ≡ get_or seen 8 0 = ap (λ (l : List ℕ). get_or l 8 0) is ∙ get_or-take (length front) seen 8 0 (omega (arith, size, few, long)) in let b : get_or front 8 0 < 256 = are 8 in omega (arith, e, b)) (omega (arith, size, few, long)))
       ∙ ap (λ (l : List ℕ). header_of len l) (sym is)
 ]
+
+-- ... and by 512 of them
+pub front_tells : (seen front : List ℕ) (len : ℕ) → len ≡ length seen → 512 ≤ length front → take 512 front ≡ take 512 seen → AreBytes front → header_of (length seen) seen ≡ header_of len front
+front_tells seen front len size long is are =
+    let b : get_or front 8 0 < 256 = are 8 in
+    let same : get_or seen 8 0 ≡ get_or front 8 0 = sym (get_or-take 512 seen 8 0 (omega arith)) ∙ ap (λ (l : List ℕ). get_or l 8 0) (sym is) ∙ get_or-take 512 front 8 0 (omega arith) in
+    ap (λ n. header_of n seen) (sym size) ∙ sym (header_of_front len 512 seen (omega (arith, same, b)) (omega arith)) ∙ ap (λ (l : List ℕ). header_of len l) (sym is) ∙ header_of_front len 512 front b (omega arith)
+
+-- a read behind the header leaves it as it was read
+pub front_stays : (old seen front : List ℕ) (start n : ℕ) → 512 ≤ start → SameBut start n old seen → 512 ≤ length front → front ≡ take (length front) old → take 512 front ≡ take 512 seen
+front_stays old seen front start n low same long is =
+    ap (λ (l : List ℕ). take 512 l) is ∙ take-take 512 (length front) old long ∙ sym (take-take 512 start old low) ∙ ap (λ (l : List ℕ). take 512 l) (sym same.before) ∙ take-take 512 start seen low
+
+low_area : (b : Bool) (area : ℕ) → 512 ≤ (if b then 512 else 512 + area)
+low_area true area = omega arith
+low_area false area = omega arith
+
+-- an area begins behind the header
+pub starts_low : (h : Header) → 512 ≤ start_of h
+starts_low h = low_area (h.selector == 1) h.area
 
 pub said_header : (label bytes : List ℕ) (e : ImageFault) (r r2 : Result Header ℕ) → r2 ≡ r → Gives (Err e) r → IsSaidBy (records_below label bytes r2) (as_open_fault e)
 said_header label bytes (image_faults.NotJournal place) r r2 same gives = ap (λ h. records_below label bytes h) (same ∙ gives)
@@ -93,21 +114,21 @@ says_area seen shown h len says (DiskFault count) size says_is shown_is said = t
 says_area seen shown h len says NoMemory size says_is shown_is said = tt
 
 -- the header stands in the whole as it stands in the front
-header_in_whole : (seen front : List ℕ) (h : Header) → front ≡ take (length front) seen → 512 ≤ length front → length front ≤ length seen → HeaderStands front h → HeaderStands seen h
-header_in_whole seen front h is long le s =
+header_in_whole : (seen front : List ℕ) (h : Header) → take 512 front ≡ take 512 seen → 512 ≤ length seen → HeaderStands front h → HeaderStands seen h
+header_in_whole seen front h is long s =
     let text : List ℕ = 1 ∷ named h.label h.area ++ h.selector ∷ [] in
-    let few : length text ≤ length front = omega (arith, length-front h.label h.area h.selector, s.label_size.1, long) in
+    let few : length text ≤ 512 = omega (arith, length-front h.label h.area h.selector, s.label_size.1) in
     record {
       label_size = s.label_size;
       area_size = s.area_size;
-      long = omega (arith, long, le);
-      front = sym (take-take (length text) (length front) seen few) ∙ ap (λ (l : List ℕ). take (length text) l) (sym is) ∙ s.front;
+      long = long;
+      front = sym (take-take (length text) 512 seen few) ∙ ap (λ (l : List ℕ). take (length text) l) (sym is) ∙ take-take (length text) 512 front few ∙ s.front;
     }
 
-pub image_opens : (label seen front shown : List ℕ) (h : Header) (len : ℕ) (o : Opened) → len ≡ length seen → length front ≡ min len 514 → front ≡ take (length front) seen → AreBytes front → header_of len front ≡ Ok h → h.label ≡ label → shown ≡ live_bytes h seen → AreBytes shown → area_of len (start_of h) shown ≡ Ok (record { form = o.form; records = o.records; end = o.gate }) → o.selector ≡ 17 + length h.label → o.area ≡ h.area → o.start ≡ start_of h → ImageOpens label seen o
-image_opens label seen front shown h len o size few is front_are header_is label_is shown_is shown_are reads selector_is area_is start_is =
+pub image_opens : (label seen front shown : List ℕ) (h : Header) (len : ℕ) (o : Opened) → len ≡ length seen → 512 ≤ length front → take 512 front ≡ take 512 seen → AreBytes front → header_of len front ≡ Ok h → h.label ≡ label → shown ≡ live_bytes h seen → AreBytes shown → area_of len (start_of h) shown ≡ Ok (record { form = o.form; records = o.records; end = o.gate }) → o.selector ≡ 17 + length h.label → o.area ≡ h.area → o.start ≡ start_of h → ImageOpens label seen o
+image_opens label seen front shown h len o size front_long is front_are header_is label_is shown_is shown_are reads selector_is area_is start_is =
     let long = header_long len front h header_is in
-    let hs = header_in_whole seen front h is (omega (arith, few, long)) (omega (arith, few, size)) (header_stands len front h front_are (omega (arith, few, long)) header_is) in
+    let hs = header_in_whole seen front h is (omega (arith, long, size)) (header_stands len front h front_are front_long header_is) in
     let live : Area = record { form = o.form; records = o.records; end = o.gate } in
     let la : AreaStands (start_of h) (live_bytes h seen) live = subst (λ (l : List ℕ). AreaStands (start_of h) l live) shown_is (area_stands len (start_of h) shown live shown_are reads) in
     let s = both_stand seen h live hs la in

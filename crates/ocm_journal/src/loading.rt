@@ -56,6 +56,7 @@ fn open_blank<D: Disk>(
     requires label { IsLabel label.now }
     requires area { IsAreaSize area }
     requires size { BlankSize blank (D.size disk.old) }
+    ensures faithful { D.faithful disk.new → D.faithful disk.old }
     ensures placed { IfOk result (IsPlaced (D.size disk.new)) }
     ensures opens { D.tells → blank_of label.now area (D.seen disk.old) ≡ Some blank → IfOk result (ImageOpens label.now (D.seen disk.new)) }
     ensures none { IfOk result (λ opened. opened.records ≡ []) }
@@ -91,17 +92,18 @@ fn open_synced<D: Disk>(
 ) -> Result<Opened, OpenFault>
     requires label { IsLabel label.now }
     requires area { IsAreaSize area }
+    ensures faithful { D.faithful disk.new → D.faithful disk.old }
     ensures placed { IfOk result (IsPlaced (D.size disk.new)) }
     ensures opens { D.tells → IfOk result (ImageOpens label.now (D.seen disk.new)) }
-    ensures reads { D.tells → IfOk result (λ opened. opening label.now area (D.seen disk.old) ≡ Ok opened.records) }
-    ensures made { D.tells → IfOk result (λ opened. IsMadeAs label.now area (D.seen disk.old) opened.form opened.area) }
-    ensures same { D.tells → blank_of label.now area (D.seen disk.old) ≡ None → D.seen disk.new ≡ D.seen disk.old }
-    ensures first { D.tells → IsBlank label.now area (D.seen disk.old) → IfOk result (λ opened. opened.start ≡ 512) }
+    ensures reads { D.tells → D.faithful disk.new → IfOk result (λ opened. opening label.now area (D.seen disk.old) ≡ Ok opened.records) }
+    ensures made { D.tells → D.faithful disk.new → IfOk result (λ opened. IsMadeAs label.now area (D.seen disk.old) opened.form opened.area) }
+    ensures same { D.tells → D.faithful disk.new → blank_of label.now area (D.seen disk.old) ≡ None → D.seen disk.new ≡ D.seen disk.old }
+    ensures first { D.tells → D.faithful disk.new → IsBlank label.now area (D.seen disk.old) → IfOk result (λ opened. opened.start ≡ 512) }
     ensures durable { D.tells → Only (D.seen disk.old) (D.may_leave disk.old) → OnOk result (Only (D.seen disk.new) (D.may_leave disk.new)) }
-    ensures says { D.tells → IfErr result (IsSaidBy (opening label.now area (D.seen disk.old))) }
+    ensures says { D.tells → D.faithful disk.new → IfErr result (IsSaidBy (opening label.now area (D.seen disk.old))) }
     ensures cause { IfErr result (IsCounted (D.count disk.old) (D.count disk.new)) }
     ensures unfailing { FailsWithDisk ⟦<D as Disk>⟧ disk.old disk.new result }
-    ensures any_moment { D.tells → Only (D.seen disk.old) (D.may_leave disk.old)
+    ensures any_moment { D.tells → D.faithful disk.new → Only (D.seen disk.old) (D.may_leave disk.old)
         → LeavesOnly D.moment D.left_since disk.old disk.new (StaysAsItOpens label.now area (D.seen disk.old)) }
 {
     let len = disk.len();
@@ -116,19 +118,20 @@ fn open_synced<D: Disk>(
 fn open<D: Disk>(alloc: Global, disk: &mut D, label: &[u8], area: u64) -> Result<Opened, OpenFault>
     requires label { IsLabel label.now }
     requires area { IsAreaSize area }
+    ensures faithful { D.faithful disk.new → D.faithful disk.old }
     ensures placed { IfOk result (IsPlaced (D.size disk.new)) }
     ensures opens { D.tells → IfOk result (ImageOpens label.now (D.seen disk.new)) }
-    ensures reads { D.tells → IfOk result (λ opened. opening label.now area (D.seen disk.old) ≡ Ok opened.records) }
-    ensures made { D.tells → IfOk result (λ opened. IsMadeAs label.now area (D.seen disk.old) opened.form opened.area) }
-    ensures same { D.tells → blank_of label.now area (D.seen disk.old) ≡ None → D.seen disk.new ≡ D.seen disk.old }
-    ensures first { D.tells → IsBlank label.now area (D.seen disk.old) → IfOk result (λ opened. opened.start ≡ 512) }
+    ensures reads { D.tells → D.faithful disk.new → IfOk result (λ opened. opening label.now area (D.seen disk.old) ≡ Ok opened.records) }
+    ensures made { D.tells → D.faithful disk.new → IfOk result (λ opened. IsMadeAs label.now area (D.seen disk.old) opened.form opened.area) }
+    ensures same { D.tells → D.faithful disk.new → blank_of label.now area (D.seen disk.old) ≡ None → D.seen disk.new ≡ D.seen disk.old }
+    ensures first { D.tells → D.faithful disk.new → IsBlank label.now area (D.seen disk.old) → IfOk result (λ opened. opened.start ≡ 512) }
     ensures durable { D.tells → OnOk result (Only (D.seen disk.new) (D.may_leave disk.new)) }
-    ensures says { D.tells → IfErr result (IsSaidBy (opening label.now area (D.seen disk.old))) }
+    ensures says { D.tells → D.faithful disk.new → IfErr result (IsSaidBy (opening label.now area (D.seen disk.old))) }
     ensures cause { IfErr result (IsCounted (D.count disk.old) (D.count disk.new)) }
     ensures unfailing { FailsWithDisk ⟦<D as Disk>⟧ disk.old disk.new result }
-    ensures stays { D.tells → StaysAsItOpens label.now area (D.seen disk.old) (D.seen disk.new) }
-    ensures synced { D.tells → D.passes disk.old 1 → (c : List ℕ) → D.may_leave disk.new c → StaysAsItOpens label.now area (D.seen disk.old) c }
-    ensures any_moment { D.tells
+    ensures stays { D.tells → D.faithful disk.new → StaysAsItOpens label.now area (D.seen disk.old) (D.seen disk.new) }
+    ensures synced { D.tells → D.faithful disk.new → D.passes disk.old 1 → (c : List ℕ) → D.may_leave disk.new c → StaysAsItOpens label.now area (D.seen disk.old) c }
+    ensures any_moment { D.tells → D.faithful disk.new
         → LeavesOnly D.moment D.left_since disk.old disk.new (λ c. D.may_leave disk.old c ⊎ StaysAsItOpens label.now area (D.seen disk.old) c) }
 {
     if disk.sync().is_err() {
@@ -150,25 +153,25 @@ impl<D: Disk> Journal<D> {
     ) -> Result<(Journal<D>, List<RawRecord>), (D, OpenFault)>
         requires label { IsLabel label.now }
         requires limit { (4096 ≤ limit) × (limit ≤ 2 ^ 39) }
-        ensures reads { D.tells → IfOk result (λ loaded. opening label.now (new_area limit) (D.seen disk) ≡ Ok loaded.1) }
+        ensures reads { D.tells → IfOk result (λ loaded. D.faithful (disk_of loaded.0) → opening label.now (new_area limit) (D.seen disk) ≡ Ok loaded.1) }
         ensures stands { D.tells → IfOk result (λ loaded. StandsFor ⟦<D as Disk>⟧ label.now (contents loaded.1) loaded.0) }
-        ensures made { D.tells → IfOk result (λ loaded. IsMadeAs label.now (new_area limit) (D.seen disk) (form_of loaded.0) (area_of loaded.0)) }
+        ensures made { D.tells → IfOk result (λ loaded. D.faithful (disk_of loaded.0) → IsMadeAs label.now (new_area limit) (D.seen disk) (form_of loaded.0) (area_of loaded.0)) }
 
         // The first area of a new journal is live, and of another one the area that its selector byte names.
-        ensures first { D.tells → IsBlank label.now (new_area limit) (D.seen disk) → IfOk result (λ loaded. first_is_live loaded.0 ≡ true) }
+        ensures first { D.tells → IsBlank label.now (new_area limit) (D.seen disk) → IfOk result (λ loaded. D.faithful (disk_of loaded.0) → first_is_live loaded.0 ≡ true) }
         ensures live { D.tells → IfOk result (λ loaded. first_is_live loaded.0 ≡ selects_first label.now (D.seen (disk_of loaded.0))) }
 
         // Of an image its live area stays the live one, and that of a new journal has no records.
-        ensures begins { D.tells → IfOk result (λ loaded. (live : LiveArea) → BeginsWith label.now (new_area limit) (D.seen disk) live → HasLive ⟦<D as Disk>⟧ label.now live loaded.0) }
+        ensures begins { D.tells → IfOk result (λ loaded. D.faithful (disk_of loaded.0) → (live : LiveArea) → BeginsWith label.now (new_area limit) (D.seen disk) live → HasLive ⟦<D as Disk>⟧ label.now live loaded.0) }
 
         // A disk on which a journal was made reads as before.
-        ensures same { D.tells → blank_of label.now (new_area limit) (D.seen disk) ≡ None → IfOk result (λ loaded. D.seen (disk_of loaded.0) ≡ D.seen disk) }
+        ensures same { D.tells → blank_of label.now (new_area limit) (D.seen disk) ≡ None → IfOk result (λ loaded. D.faithful (disk_of loaded.0) → D.seen (disk_of loaded.0) ≡ D.seen disk) }
 
         // Opened or not, it reads as before, or it was blank and opens to no records.
-        ensures stays_ok { D.tells → IfOk result (λ loaded. StaysAsItOpens label.now (new_area limit) (D.seen disk) (D.seen (disk_of loaded.0))) }
-        ensures stays_err { D.tells → IfErr result (λ failed. StaysAsItOpens label.now (new_area limit) (D.seen disk) (D.seen failed.0)) }
+        ensures stays_ok { D.tells → IfOk result (λ loaded. D.faithful (disk_of loaded.0) → StaysAsItOpens label.now (new_area limit) (D.seen disk) (D.seen (disk_of loaded.0))) }
+        ensures stays_err { D.tells → IfErr result (λ failed. D.faithful failed.0 → StaysAsItOpens label.now (new_area limit) (D.seen disk) (D.seen failed.0)) }
         ensures goes { IfOk result (λ loaded. loaded.0.stopped ≡ false) }
-        ensures says { D.tells → IfErr result (λ failed. IsSaidBy (opening label.now (new_area limit) (D.seen disk)) failed.1) }
+        ensures says { D.tells → IfErr result (λ failed. D.faithful failed.0 → IsSaidBy (opening label.now (new_area limit) (D.seen disk)) failed.1) }
         ensures cause { IfErr result (λ failed. IsCounted (D.count disk) (D.count failed.0) failed.1) }
         ensures count { IfOk result (λ loaded. D.count (disk_of loaded.0) ≡ D.count disk) }
 
@@ -178,15 +181,15 @@ impl<D: Disk> Journal<D> {
 
         // A crash at any moment leaves what it might have left before the call, or, from the first sync on, the bytes
         // as they were read, or, while a journal is made, what opens to no records.
-        ensures moments_ok { D.tells → IfOk result (λ loaded. LeavesOnly D.moment D.left_since disk (disk_of loaded.0)
+        ensures moments_ok { D.tells → IfOk result (λ loaded. D.faithful (disk_of loaded.0) → LeavesOnly D.moment D.left_since disk (disk_of loaded.0)
             (λ c. D.may_leave disk c ⊎ StaysAsItOpens label.now (new_area limit) (D.seen disk) c)) }
-        ensures moments_err { D.tells → IfErr result (λ failed. LeavesOnly D.moment D.left_since disk failed.0
+        ensures moments_err { D.tells → IfErr result (λ failed. D.faithful failed.0 → LeavesOnly D.moment D.left_since disk failed.0
             (λ c. D.may_leave disk c ⊎ StaysAsItOpens label.now (new_area limit) (D.seen disk) c)) }
 
         // Wherever the calls of its disk end behind the first one, a crash leaves the second of these alone. So it does at
         // each moment from the success of the first sync on, since no call tells how many are left.
-        ensures synced_ok { D.tells → D.passes disk 1 → IfOk result (λ loaded. (c : List ℕ) → D.may_leave (disk_of loaded.0) c → StaysAsItOpens label.now (new_area limit) (D.seen disk) c) }
-        ensures synced_err { D.tells → D.passes disk 1 → IfErr result (λ failed. (c : List ℕ) → D.may_leave failed.0 c → StaysAsItOpens label.now (new_area limit) (D.seen disk) c) }
+        ensures synced_ok { D.tells → D.passes disk 1 → IfOk result (λ loaded. D.faithful (disk_of loaded.0) → (c : List ℕ) → D.may_leave (disk_of loaded.0) c → StaysAsItOpens label.now (new_area limit) (D.seen disk) c) }
+        ensures synced_err { D.tells → D.passes disk 1 → IfErr result (λ failed. D.faithful failed.0 → (c : List ℕ) → D.may_leave failed.0 c → StaysAsItOpens label.now (new_area limit) (D.seen disk) c) }
     {
         let mut disk = disk;
         match open(alloc, &mut disk, label, (limit - 512) / 2) {

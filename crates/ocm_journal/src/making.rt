@@ -14,6 +14,7 @@ use ocm_journal_image::Blank;
 // Writes the first byte, which makes a journal of all that is written behind it.
 pub(crate) fn finish<D: Disk>(disk: &mut D) -> Result<(), Failed>
     requires { D.size disk.old ≡ 514 }
+    ensures faithful { D.faithful disk.new → D.faithful disk.old }
     ensures made { D.tells → (rest : List ℕ) (x : ℕ) → D.seen disk.old ≡ x ∷ rest → OnOk result (D.seen disk.new ≡ 1 ∷ rest) }
     ensures durable { D.tells → OnOk result (Only (D.seen disk.new) (D.may_leave disk.new)) }
     ensures any_moment { D.tells → Only (D.seen disk.old) (D.may_leave disk.old) → (label : List ℕ) (area form x : ℕ) → IsLabel label → IsAreaSize area → IsForm form
@@ -30,6 +31,7 @@ pub(crate) fn go_on<D: Disk>(disk: &mut D, text: &[u8]) -> Result<(), Failed>
     requires some { 1 ≤ D.size disk.old }
     requires few { D.size disk.old ≤ 514 }
     requires text { length text.now ≡ 513 }
+    ensures faithful { D.faithful disk.new → D.faithful disk.old }
     ensures made { D.tells → slice_index (D.seen disk.old) 0 ≡ 0 → OnOk result (D.seen disk.new ≡ 1 ∷ text.now) }
     ensures durable { D.tells → OnOk result (Only (D.seen disk.new) (D.may_leave disk.new)) }
     ensures any_moment { D.tells → Only (D.seen disk.old) (D.may_leave disk.old) → slice_index (D.seen disk.old) 0 ≡ 0 → (label : List ℕ) (area : ℕ) → IsLabel label → IsAreaSize area
@@ -46,6 +48,7 @@ pub(crate) fn go_on<D: Disk>(disk: &mut D, text: &[u8]) -> Result<(), Failed>
 pub(crate) fn begin<D: Disk>(disk: &mut D, text: &[u8]) -> Result<(), Failed>
     requires few { D.size disk.old ≤ 1 }
     requires text { length text.now ≡ 513 }
+    ensures faithful { D.faithful disk.new → D.faithful disk.old }
     ensures made { D.tells → OnOk result (D.seen disk.new ≡ 1 ∷ text.now) }
     ensures durable { D.tells → OnOk result (Only (D.seen disk.new) (D.may_leave disk.new)) }
     ensures any_moment { D.tells → Only (D.seen disk.old) (D.may_leave disk.old) → (label : List ℕ) (area : ℕ) → IsLabel label → IsAreaSize area
@@ -62,6 +65,7 @@ pub(crate) fn begin<D: Disk>(disk: &mut D, text: &[u8]) -> Result<(), Failed>
 pub(crate) fn make<D: Disk>(disk: &mut D, blank: Blank, text: &[u8]) -> Result<(), Failed>
     requires size { BlankSize blank (D.size disk.old) }
     requires text { length text.now ≡ 513 }
+    ensures faithful { D.faithful disk.new → D.faithful disk.old }
     ensures made { D.tells → (label : List ℕ) (area : ℕ) → text.now ≡ fresh label area 2 → blank_of label area (D.seen disk.old) ≡ Some blank
         → OnOk result (D.seen disk.new ≡ 1 ∷ fresh label area (made_form blank)) }
     ensures durable { D.tells → OnOk result (Only (D.seen disk.new) (D.may_leave disk.new)) }

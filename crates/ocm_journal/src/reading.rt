@@ -1,7 +1,7 @@
 //! How a disk is read, which changes nothing on it.
 ghost use Rattle.std.specs.Prelude.{◌≡◌, ◌≤◌, ◌<◌, ◌+◌, ◌^◌, min, List, ℕ, length, take, drop, OnOk, IfOk, IfErr, Ok, Err};
 ghost use Rattle.ocm_texts.specs.Hex.{AreBytes};
-ghost use Rattle.ocm_disk.specs.Disk.{LeavesOnly};
+ghost use Rattle.ocm_disk.specs.Disk.{LeavesOnly, Only, SameBut};
 ghost use Rattle.ocm_journal_image.specs.Layout.{IsLabel, IsAreaSize};
 ghost use Rattle.ocm_journal_image.specs.Reading.{header_of, area_of, start_of};
 ghost use Rattle.ocm_journal.specs.Openings.{records_in, records_below, IsReadFault, IsSaid, IsSaidBy, IsCounted, IsPlaced, ImageOpens};
@@ -32,12 +32,15 @@ pub(crate) fn read_part<D: Disk>(
     count: u64,
 ) -> Result<Vec<u8>, OpenFault>
     requires { place + count ≤ D.size disk.old }
-    ensures bytes { D.tells → IfOk result (λ v. v.items ≡ take count (drop place (D.seen disk.old))) }
+    ensures bytes { D.tells → IfOk result (λ v. v.items ≡ take count (drop place (D.seen disk.new))) }
+    ensures elsewhere { D.tells → SameBut place count (D.seen disk.old) (D.seen disk.new) }
     ensures length { IfOk result (λ v. length v.items ≡ count) }
     ensures size { D.size disk.new ≡ D.size disk.old }
-    ensures seen { D.seen disk.new ≡ D.seen disk.old }
-    ensures crash { D.tells → (c : List ℕ) → D.may_leave disk.new c → D.may_leave disk.old c }
-    ensures any_moment { D.tells → LeavesOnly D.moment D.left_since disk.old disk.new (D.may_leave disk.old) }
+    ensures faithful { D.faithful disk.new → D.faithful disk.old }
+    ensures seen { D.faithful disk.new → D.seen disk.new ≡ D.seen disk.old }
+    ensures settled { D.tells → Only (D.seen disk.old) (D.may_leave disk.old) → Only (D.seen disk.new) (D.may_leave disk.new) }
+    ensures crash { D.tells → D.faithful disk.new → (c : List ℕ) → D.may_leave disk.new c → D.may_leave disk.old c }
+    ensures any_moment { D.tells → D.faithful disk.new → LeavesOnly D.moment D.left_since disk.old disk.new (D.may_leave disk.old) }
     ensures count { OnOk result (D.count disk.new ≡ D.count disk.old) }
     ensures fault { IfErr result (IsReadFault (D.count disk.old) (D.count disk.new)) }
     ensures unfailing { FailsWithDisk ⟦<D as Disk>⟧ disk.old disk.new result }
@@ -86,16 +89,18 @@ pub(crate) fn open_image<D: Disk>(
     requires label { IsLabel label.now }
     requires front { length front.now ≡ min (D.size disk.old) 514 }
     ensures placed { IfOk result (IsPlaced (D.size disk.new)) }
-    ensures opens { D.tells → front.now ≡ take (length front.now) (D.seen disk.old) → IfOk result (ImageOpens label.now (D.seen disk.old)) }
+    ensures opens { D.tells → front.now ≡ take (length front.now) (D.seen disk.old) → IfOk result (ImageOpens label.now (D.seen disk.new)) }
     ensures reads { D.tells → front.now ≡ take (length front.now) (D.seen disk.old)
-        → IfOk result (λ opened. records_below label.now (D.seen disk.old) (header_of (length (D.seen disk.old)) (D.seen disk.old)) ≡ Ok opened.records) }
+        → IfOk result (λ opened. records_below label.now (D.seen disk.new) (header_of (length (D.seen disk.new)) (D.seen disk.new)) ≡ Ok opened.records) }
     ensures says { D.tells → front.now ≡ take (length front.now) (D.seen disk.old)
-        → IfErr result (IsSaidBy (records_below label.now (D.seen disk.old) (header_of (length (D.seen disk.old)) (D.seen disk.old)))) }
+        → IfErr result (IsSaidBy (records_below label.now (D.seen disk.new) (header_of (length (D.seen disk.new)) (D.seen disk.new)))) }
     ensures cause { IfErr result (IsCounted (D.count disk.old) (D.count disk.new)) }
     ensures size { D.size disk.new ≡ D.size disk.old }
-    ensures seen { D.seen disk.new ≡ D.seen disk.old }
-    ensures crash { D.tells → (c : List ℕ) → D.may_leave disk.new c → D.may_leave disk.old c }
-    ensures any_moment { D.tells → LeavesOnly D.moment D.left_since disk.old disk.new (D.may_leave disk.old) }
+    ensures faithful { D.faithful disk.new → D.faithful disk.old }
+    ensures seen { D.faithful disk.new → D.seen disk.new ≡ D.seen disk.old }
+    ensures settled { D.tells → Only (D.seen disk.old) (D.may_leave disk.old) → Only (D.seen disk.new) (D.may_leave disk.new) }
+    ensures crash { D.tells → D.faithful disk.new → (c : List ℕ) → D.may_leave disk.new c → D.may_leave disk.old c }
+    ensures any_moment { D.tells → D.faithful disk.new → LeavesOnly D.moment D.left_since disk.old disk.new (D.may_leave disk.old) }
     ensures unfailing { FailsWithDisk ⟦<D as Disk>⟧ disk.old disk.new result }
 {
     let len = disk.len();

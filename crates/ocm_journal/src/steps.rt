@@ -10,6 +10,7 @@ use ocm_disk::Disk;
 pub fn put<D: Disk>(disk: &mut D, place: u64, text: &[u8]) -> Result<(), Failed>
     requires place { place ≤ D.size disk.old }
     requires end { place + length text.now ≤ 2 ^ 40 }
+    ensures faithful { D.faithful disk.new → D.faithful disk.old }
     ensures written { D.tells → OnOk result (Holds (D.seen disk.old) place text.now (D.seen disk.new)) }
     ensures durable { D.tells → OnOk result (Only (D.seen disk.new) (D.may_leave disk.new)) }
     ensures any_moment { D.tells → Only (D.seen disk.old) (D.may_leave disk.old) → LeavesOnly D.moment D.left_since disk.old disk.new (Torn place (length text.now) (D.seen disk.old)) }
@@ -40,6 +41,7 @@ pub fn put_behind<D: Disk>(
     requires end { place + length text.now ≤ 2 ^ 40 }
     requires switch { switch < D.size disk.old }
     requires low { switch < 2 ^ 40 }
+    ensures faithful { D.faithful disk.new → D.faithful disk.old }
     ensures switched { D.tells → OnOk result (Switched (D.seen disk.old) place text.now switch byte (D.seen disk.new)) }
     ensures durable { D.tells → OnOk result (Only (D.seen disk.new) (D.may_leave disk.new)) }
     ensures any_moment { D.tells → Only (D.seen disk.old) (D.may_leave disk.old) → LeavesOnly D.moment D.left_since disk.old disk.new (InSwitch (D.seen disk.old) place text.now switch) }

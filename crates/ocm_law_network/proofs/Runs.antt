@@ -51,15 +51,16 @@ runs-make-sessions {D} disk C plan area limit before after calls own sides worke
       session = subst (λ (t : Terms). IsLegalUnder t base history) ground end.legal;
       settles = shifts-settle C (Origin D disk) sides ran.config s.gate s.first workers draws old new _ service.all history own service.each service.shares (service.all_own ∙ service.counted);
       counted = service.counted;
-      opened = λ tells. (s.is_base tells).1;
+      loaded = disk_of ran.store;
+      opened = λ tells faithful. (s.is_base tells faithful).1;
       sized = ran.area_is;
       reads = λ tells.
           subst (λ d. LeavesNext (terms plan.host size) base history None (disk.seen d)) (sym s.back)
           (subst (λ (t : Terms). LeavesNext t base history None (disk.seen (disk_of (store_of s.left)))) ground (end.stands.reads tells));
       leaves = λ tells c may. subst (λ (t : Terms). LeavesNext t base history None c) ground (end.stands.leaves tells c (subst (λ d. disk.may_leave d c) s.back may));
-      any_moment = λ tells.
+      any_moment = λ tells faithful.
           weaker disk.moment disk.left_since before after (LeavesInRun disk plan.host area before (terms plan.host size) base history) (LeavesWithin disk plan.host area before size base history)
-          (subst (λ (t : Terms). LeavesOnly disk.moment disk.left_since before after (LeavesInRun disk plan.host area before t base history)) same (ran.any_moment tells)) within;
+          (subst (λ (t : Terms). LeavesOnly disk.moment disk.left_since before after (LeavesInRun disk plan.host area before t base history)) same (ran.any_moment tells faithful)) within;
     } in
     let worked : HasWorked history workers old new = record {
       all = service.all;
@@ -80,9 +81,9 @@ opened-image host area size own base next bytes opens sized image =
     (loaded-area host area own size next bytes sized image, opens-once host area next base bytes (inr (size, image)) opens)
 
 pub runs-follow : {D E : Type 0} (disk : Ghosts D) (other : Ghosts E) → RunsFollow disk other
-runs-follow disk other host area before after from to calls more run later tells =
+runs-follow disk other host area before after from to calls more run later tells faithful =
     let same = λ (next : List Entry) (image : IsImageIn host run.size next (other.seen from)).
-    opened-image host area run.size later.size later.base next (other.seen from) (later.opened tells) (later.sized tells) image in (
+    opened-image host area run.size later.size later.base next (other.seen from) (later.opened tells faithful) (later.sized tells faithful) image in (
       (λ opens. let at = same opens.0 opens.1 in (at.0, subst (λ k. MayFollow host run.base run.history k) at.1 opens.2)),
       (λ opens. let at = same opens.0 opens.1 in (at.0, subst (λ k. IsNext host run.base run.history None k) at.1 opens.2)),
     )

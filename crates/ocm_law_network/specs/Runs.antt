@@ -42,11 +42,13 @@ pub record HasRun {D : Type 0} (disk : Ghosts D) (host : List ℕ) (area : ℕ) 
   pub session : IsSession host size base history
   pub settles : SettlesAnswers history
   pub counted : calls ≡ length history
-  pub opened : disk.tells → OpensTo host area base (disk.seen before)
-  pub sized : disk.tells → IsOfArea host area size (disk.seen before)
+  -- the disk once it was loaded
+  pub loaded : D
+  pub opened : disk.tells → disk.faithful loaded → OpensTo host area base (disk.seen before)
+  pub sized : disk.tells → disk.faithful loaded → IsOfArea host area size (disk.seen before)
   pub reads : disk.tells → OpensNext host size base history (disk.seen after)
   pub leaves : disk.tells → (c : List ℕ) → disk.may_leave after c → OpensNext host size base history c
-  pub any_moment : disk.tells → LeavesOnly disk.moment disk.left_since before after (LeavesWithin disk host area before size base history)
+  pub any_moment : disk.tells → disk.faithful loaded → LeavesOnly disk.moment disk.left_since before after (LeavesWithin disk host area before size base history)
 
 -- The calls of a history are those of these workers, each at its place; each settlement of a worker has exchanges of its own
 -- among those that its dial made.
@@ -74,6 +76,6 @@ RunsOpenNext {D} disk =
 -- a beginning of the earlier run's calls, or all of them, and its areas have the same size.
 abbrev pub RunsFollow : {D E : Type 0} → Ghosts D → Ghosts E → Type 0
 RunsFollow {D} {E} disk other =
-    (host : List ℕ) (area : ℕ) (before after : D) (from to : E) (calls more : ℕ) (run : HasRun disk host area before after calls) (later : HasRun other host area from to more) → other.tells
+    (host : List ℕ) (area : ℕ) (before after : D) (from to : E) (calls more : ℕ) (run : HasRun disk host area before after calls) (later : HasRun other host area from to more) → other.tells → other.faithful later.loaded
     → (OpensWithin host run.size run.base run.history (other.seen from) → (later.size ≡ run.size) × MayFollow host run.base run.history later.base)
     × (OpensNext host run.size run.base run.history (other.seen from) → (later.size ≡ run.size) × IsNext host run.base run.history None later.base)

@@ -50,12 +50,13 @@ ran-was {D} disk plan area limit before after calls own IsEach ran =
     record {
       size = size;
       session = subst (λ (t : Terms). IsLegalUnder t base history) ground end.legal;
-      opened = λ tells. (s.is_base tells).1;
+      loaded = disk_of ran.store;
+      opened = λ tells faithful. (s.is_base tells faithful).1;
       reads = λ tells.
           subst (λ d. LeavesNext (terms plan.host size) base history None (disk.seen d)) (sym s.back)
           (subst (λ (t : Terms). LeavesNext t base history None (disk.seen (disk_of (store_of s.left)))) ground (end.stands.reads tells));
       leaves = λ tells c may. subst (λ (t : Terms). LeavesNext t base history None c) ground (end.stands.leaves tells c (subst (λ d. disk.may_leave d c) s.back may));
-      any_moment = λ tells. subst (λ (t : Terms). LeavesOnly disk.moment disk.left_since before after (LeavesInRun disk plan.host area before t base history)) same (ran.any_moment tells);
+      any_moment = λ tells faithful. subst (λ (t : Terms). LeavesOnly disk.moment disk.left_since before after (LeavesInRun disk plan.host area before t base history)) same (ran.any_moment tells faithful);
       moments = s.service.moments;
       since = λ tells. subst (λ (t : Terms). KeepsSince disk t base history s.service.moments after) same (ran.since tells);
     }
@@ -128,9 +129,9 @@ pub record Part {D : Type 0} (disk : Ghosts D) {host : List ℕ} {area : ℕ} (r
   pub lawful : IsSession host session.area session.base session.calls
   pub comes : IsNext host session.base session.calls session.flight next
 
-part : {D : Type 0} (disk : Ghosts D) (host : List ℕ) (area : ℕ) (r : RunOf disk host area) (bytes : List ℕ) (next : List Entry) → disk.tells → ((c : List ℕ) → disk.may_leave r.before c → c ≡ disk.seen r.before)
+part : {D : Type 0} (disk : Ghosts D) (host : List ℕ) (area : ℕ) (r : RunOf disk host area) (bytes : List ℕ) (next : List Entry) → disk.tells → disk.faithful r.was.loaded → ((c : List ℕ) → disk.may_leave r.before c → c ≡ disk.seen r.before)
     → OpensTo host area next bytes → (left : IsLeftBy disk r bytes) → Part disk r bytes left next
-part disk host area r bytes next tells settled opens (inl reads) =
+part disk host area r bytes next tells faithful settled opens (inl reads) =
     record {
       session = whole r;
       sized = refl;
@@ -139,7 +140,7 @@ part disk host area r bytes next tells settled opens (inl reads) =
       lawful = r.was.session;
       comes = left-next host area r.was.size r.base r.history next None bytes opens (subst (λ c. LeavesNext (terms host r.was.size) r.base r.history None c) (sym reads) (r.was.reads tells));
     }
-part disk host area r bytes next tells settled opens (inr (inl crash)) =
+part disk host area r bytes next tells faithful settled opens (inr (inl crash)) =
     record {
       session = whole r;
       sized = refl;
@@ -148,13 +149,13 @@ part disk host area r bytes next tells settled opens (inr (inl crash)) =
       lawful = r.was.session;
       comes = left-next host area r.was.size r.base r.history next None bytes opens (r.was.leaves tells bytes crash);
     }
-part {D} disk host area r bytes next tells settled opens (inr (inr (inl within))) =
-    let m = r.was.any_moment tells in
+part {D} disk host area r bytes next tells faithful settled opens (inr (inr (inl within))) =
+    let m = r.was.any_moment tells faithful in
     by_place (by_case (m.each bytes within))
   where
     by_case : LeavesInRun disk host area r.before (terms host r.was.size) r.base r.history bytes → Place host r.base r.history next
-    by_case (inl had) = stays-place host area r.base r.history next (disk.seen r.before) bytes (r.was.opened tells) opens (inl (settled bytes had))
-    by_case (inr (inl stays)) = stays-place host area r.base r.history next (disk.seen r.before) bytes (r.was.opened tells) opens stays
+    by_case (inl had) = stays-place host area r.base r.history next (disk.seen r.before) bytes (r.was.opened tells faithful) opens (inl (settled bytes had))
+    by_case (inr (inl stays)) = stays-place host area r.base r.history next (disk.seen r.before) bytes (r.was.opened tells faithful) opens stays
     by_case (inr (inr along)) = along-place host area r.was.size r.base r.history next bytes opens along
 
     by_place : Place host r.base r.history next → Part disk r bytes (inr (inr (inl within))) next
@@ -166,7 +167,7 @@ part {D} disk host area r bytes next tells settled opens (inr (inr (inl within))
       lawful = session-before host r.was.size r.base place.later place.calls (subst (λ h. IsSession host r.was.size r.base h) place.split r.was.session);
       comes = place.comes;
     }
-part disk host area r bytes next tells settled opens (inr (inr (inr since))) =
+part disk host area r bytes next tells faithful settled opens (inr (inr (inr since))) =
     let kept = r.was.since tells since.done since.later since.at since.split since.behind in
     let place = along-behind host area r.was.size r.base since.done since.later next bytes opens (kept.1 bytes since.left) in
     let calls = place.more ++ since.done in
@@ -199,8 +200,8 @@ pub record Sessions {D : Type 0} (disk : Ghosts D) (host : List ℕ) (area : ℕ
 sessions : {D : Type 0} (disk : Ghosts D) (host : List ℕ) (area : ℕ) (bytes : List ℕ) (runs : List (RunOf disk host area)) (led : LeadTo disk bytes runs) (next : List Entry) → disk.tells → OpensTo host area next bytes → Sessions disk host area bytes runs led next
 sessions disk host area bytes [] led next tells opens = record { all = []; are = tt; follow = tt }
 sessions disk host area bytes (r ∷ older) led next tells opens =
-    let rest = sessions disk host area (disk.seen r.before) older led.2 r.base tells (r.was.opened tells) in
-    let p = part disk host area r bytes next tells led.1 opens led.0 in
+    let rest = sessions disk host area (disk.seen r.before) older led.2 r.base tells (r.was.opened tells led.1.1) in
+    let p = part disk host area r bytes next tells led.1.1 led.1.0 opens led.0 in
     let to : FollowTo host rest.all p.session.base = subst (λ k. FollowTo host rest.all k) (sym p.based) rest.follow in
     record {
       all = p.session ∷ rest.all;
@@ -209,8 +210,8 @@ sessions disk host area bytes (r ∷ older) led next tells opens =
     }
 
 pub runs-keep : {D : Type 0} (disk : Ghosts D) → RunsKeep disk
-runs-keep disk = λ host area r older led tells.
-    let rest = sessions disk host area (disk.seen r.before) older led r.base tells (r.was.opened tells) in
+runs-keep disk = λ host area r older led tells faithful.
+    let rest = sessions disk host area (disk.seen r.before) older led r.base tells (r.was.opened tells faithful) in
     (rest.all, rest.are, keeps host (whole r) rest.all (follow-more host (whole r) rest.all r.was.session rest.follow))
 
 -- a run alone keeps what is promised

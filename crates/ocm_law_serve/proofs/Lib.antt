@@ -1,2 +1,3 @@
 mod InARow
+mod Serving
 mod Written

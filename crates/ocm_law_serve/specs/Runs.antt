@@ -20,10 +20,12 @@ use Rattle.ocm_law_openings.specs.Keeping.{Keeps}
 pub record WasRun {D : Type 0} (disk : Ghosts D) (host : List ℕ) (area : ℕ) (before after : D) (base history : List Entry) : Type 0 where
   pub size : ℕ
   pub session : IsSession host size base history
-  pub opened : disk.tells → OpensTo host area base (disk.seen before)
+  -- the disk once it was loaded
+  pub loaded : D
+  pub opened : disk.tells → disk.faithful loaded → OpensTo host area base (disk.seen before)
   pub reads : disk.tells → LeavesNext (record { host = host; area = size }) base history None (disk.seen after)
   pub leaves : disk.tells → (c : List ℕ) → disk.may_leave after c → LeavesNext (record { host = host; area = size }) base history None c
-  pub any_moment : disk.tells → LeavesOnly disk.moment disk.left_since before after (LeavesInRun disk host area before (record { host = host; area = size }) base history)
+  pub any_moment : disk.tells → disk.faithful loaded → LeavesOnly disk.moment disk.left_since before after (LeavesInRun disk host area before (record { host = host; area = size }) base history)
   pub moments : List ℕ
   pub since : disk.tells → KeepsSince disk (record { host = host; area = size }) base history moments after
 
@@ -60,10 +62,10 @@ abbrev pub IsSettled : {D : Type 0} (disk : Ghosts D) → D → Type 0
 IsSettled disk d = (c : List ℕ) → disk.may_leave d c → c ≡ disk.seen d
 
 -- These runs led to these bytes: the last one left them, the one before that left what the last one began with, and so on.
--- The disk of each was settled when the run began.
+-- The disk of each was settled when the run began, and was read faithfully.
 abbrev pub LeadTo : {D : Type 0} (disk : Ghosts D) {host : List ℕ} {area : ℕ} → List ℕ → List (RunOf disk host area) → Type 0
 LeadTo disk bytes [] = ⊤
-LeadTo disk bytes (r ∷ older) = IsLeftBy disk r bytes × IsSettled disk r.before × LeadTo disk (disk.seen r.before) older
+LeadTo disk bytes (r ∷ older) = IsLeftBy disk r bytes × (IsSettled disk r.before × disk.faithful r.was.loaded) × LeadTo disk (disk.seen r.before) older
 
 -- What a session has of a run that left these bytes: all its calls, where it came to its end, and else a beginning of them. That has all calls
 -- `done` where the bytes were left since the moment behind these.
@@ -85,5 +87,5 @@ AreOf disk bytes (r ∷ older) led (p ∷ ps) =
 -- outlives every crash.
 abbrev pub RunsKeep : {D : Type 0} → Ghosts D → Type 0
 RunsKeep disk =
-    (host : List ℕ) (area : ℕ) (r : RunOf disk host area) (older : List (RunOf disk host area)) (led : LeadTo disk (disk.seen r.before) older) → disk.tells
+    (host : List ℕ) (area : ℕ) (r : RunOf disk host area) (older : List (RunOf disk host area)) (led : LeadTo disk (disk.seen r.before) older) → disk.tells → disk.faithful r.was.loaded
     → (ps : List Period) × AreOf disk (disk.seen r.before) older led ps × Keeps host (whole r) ps

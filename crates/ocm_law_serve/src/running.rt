@@ -8,6 +8,7 @@ ghost use Rattle.ocm_serve_store.specs.Runs.{HasServed, Ran};
 ghost use Rattle.ocm_law_openings.specs.Keeping.{Keeps};
 ghost use Rattle.ocm_law_serve.specs.OnDisk.{AnswersAreOnDisk, AnswersOnDisk};
 ghost use Rattle.ocm_law_serve.specs.Runs.{RunsKeep, WasRun};
+ghost use Rattle.ocm_law_serve.specs.Served.{ServedRunsKeep};
 ghost use Rattle.ocm_store.specs.Stores.{terms_of};
 
 use ocm_base::Clock;
@@ -34,6 +35,15 @@ pub fn runs_of_one_server_keep_what_is_promised<D: Disk>()
 /// may follow that call, or a later one. It is said of a run that comes back, and of the connections that a worker's door tells.
 pub fn an_answer_is_on_the_disk<D: Disk, C: Conn>()
     ensures { AnswersAreOnDisk ⟦<D as Disk>⟧ C.sides }
+{}
+
+/// By all that is told of a run by a plan, as of that of the program: the calls of its workers are those of a session, whose
+/// history is legal and outlives every crash, and each page that answers calls was noted with a moment since which a crash
+/// leaves these. Where the disk held some bytes alone when it was opened, and was read faithfully, these bytes opened to the
+/// list behind which the calls stand, and a crash at any moment of the run leaves what opens as they do, or what may follow at
+/// some place of the calls.
+pub fn served_runs_keep_what_is_promised<D: Disk, C: Conn>()
+    ensures { ServedRunsKeep ⟦<D as Disk>⟧ C.sides }
 {}
 
 /// Serves as `serve` does. The calls of all workers stand in one legal history, in which requests for files

@@ -1,20 +1,21 @@
 //! The file of a log.
-ghost use Rattle.std.specs.Prelude.{◌≡◌, ◌<◌, None, IfOk, OnErr};
+ghost use Rattle.std.specs.Prelude.{◌≡◌, ◌<◌, Some, [], IfOk, OnErr};
 
 use crate::descriptors::Descriptor;
 use crate::faults::LogFault;
 use crate::lines::{begins_as_log, cut_to_lines, end_alike};
-use ocm_base::{Failed, Sink, Text};
+use ocm_base::{Failed, GhostBytes, Sink, Text};
 use std::alloc::Global;
 use std::io::ErrorKind;
 use std::rt::Files;
 
 /// The file of a log. What it holds stays, except for what stands behind its last line end: a line that was cut. It is locked
-/// while it is open. It tells nothing of what it took.
+/// while it is open. It tells what the system took of it since then, as the system answered.
 pub struct LogFile {
     path: Text,
     file: Descriptor,
     faults: u64,
+    taken: GhostBytes,
 }
 
 impl Drop for LogFile {
@@ -23,6 +24,7 @@ impl Drop for LogFile {
             path: _,
             file: _,
             faults: _,
+            taken: _,
         } = self;
     }
 }
@@ -31,7 +33,8 @@ impl LogFile {
     /// Opens the file at a path for a log, and makes it where there is none, for its owner alone. A link, what is no plain
     /// file, a file that is locked, and one that does not begin as a log does are refused, and left as they are.
     pub fn open(_files: &impl Files, alloc: Global, path: &str) -> Result<LogFile, LogFault>
-        ensures { IfOk result (λ file. ⟦<LogFile as Sink>⟧.faults file ≡ 0) }
+        ensures faults { IfOk result (λ file. ⟦<LogFile as Sink>⟧.faults file ≡ 0) }
+        ensures taken { IfOk result (λ file. ⟦<LogFile as Sink>⟧.taken file ≡ Some []) }
     {
         let Ok(name) = Text::of(alloc, path) else {
             return Err(LogFault::NoMemory);
@@ -41,6 +44,7 @@ impl LogFile {
                 path: name,
                 file,
                 faults: 0,
+                taken: GhostBytes::new(),
             }),
             Err(fault) => {
                 drop(name);
@@ -56,6 +60,7 @@ impl LogFile {
     /// follows, and no file is opened.
     pub fn renew(&mut self) -> Result<(), LogFault>
         ensures faults { ⟦<LogFile as Sink>⟧.faults self.new ≡ ⟦<LogFile as Sink>⟧.faults self.old }
+        ensures taken { ⟦<LogFile as Sink>⟧.taken self.new ≡ ⟦<LogFile as Sink>⟧.taken self.old }
         ensures failed { 0 < ⟦<LogFile as Sink>⟧.faults self.old → self.new ≡ self.old }
         ensures err { OnErr result (self.new ≡ self.old) }
     {
@@ -127,13 +132,16 @@ fn take(file: &Descriptor) -> Result<(), LogFault> {
 }
 
 impl Sink for LogFile {
-    ghost taken = { λ _. None };
+    ghost taken = { λ file. Some file.taken.bytes };
 
     ghost faults = { λ file. file.faults };
 
     fn write(&mut self, piece: &[u8]) -> Result<usize, Failed> {
         match self.file.add(piece) {
-            Ok(n) => Ok(n),
+            Ok(n) => {
+                self.taken = self.taken.and(piece, n);
+                Ok(n)
+            }
             Err(Failed) => {
                 self.faults = self.faults.saturating_add(1);
                 Err(Failed)

@@ -1,7 +1,7 @@
 //! A server's doors, connections and dials over TCP.
 //!
-//! Contracts know nothing of what a socket gives or takes: what stands here meets the traits of the server, and tells no
-//! content.
+//! Contracts know nothing of what a socket will give. What stands here meets the traits of the server, and tells what came
+//! and what was sent.
 #![tactic(auto)]
 
 mod conns;

@@ -1,5 +1,5 @@
 //! A connection of the system's, with what came ahead of a read and what is not sent yet.
-ghost use Rattle.std.specs.Prelude.{◌≤◌, ◌++◌, IfSome, length};
+ghost use Rattle.std.specs.Prelude.{◌≤◌, ◌++◌, IfErr, IfSome, length};
 
 use crate::incoming::{Incoming, Peer};
 use crate::outgoing::Outgoing;
@@ -288,7 +288,7 @@ impl<'a, R: time::Clock> ClientLine<'a, R> {
 
     /// Refuses a message of which too much came.
     fn refuse(&mut self) -> Step {
-        if self.write(REFUSED, &[]) {
+        if self.write(REFUSED, &[]).is_ok() {
             Step::Finish
         } else {
             Step::Close
@@ -330,7 +330,7 @@ impl<'a, R: time::Clock> ClientLine<'a, R> {
 
     /// Tells the peer to send the body that it announced (RFC 9110 section 15.2.1).
     fn send_continue(&mut self) {
-        if !self.send(CONTINUE, &[]) {
+        if self.send(CONTINUE, &[]).is_err() {
             self.incoming.end(Peer::Broken);
         }
     }
@@ -411,33 +411,41 @@ impl<'a, R: time::Clock> ClientLine<'a, R> {
         None
     }
 
-    /// Takes all of both pieces of a page, one behind the other. What comes next is another message. Answers whether it
-    /// took them.
-    pub fn write(&mut self, first: &[u8], second: &[u8]) -> bool {
+    /// Takes all of both pieces of a page, one behind the other. What comes next is another message. Where the line fails,
+    /// the error says how many of their bytes were sent, from the front on.
+    pub fn write(&mut self, first: &[u8], second: &[u8]) -> Result<(), usize>
+        ensures { IfErr result (λ n. n ≤ length (first.now ++ second.now)) }
+    {
         self.state = State::Served;
         self.begin();
-        let was_taken = self.send(first, second);
+        let taken = self.send(first, second);
         if self.incoming.is_post() {
             self.posts.ring();
         }
-        was_taken
+        taken
     }
 
     /// Takes all of both pieces, one behind the other and behind what is unsent: sends what goes at once, in one call of
-    /// the system, and keeps the rest to be sent when the system tells that the peer takes more. Answers whether it took
-    /// them.
-    fn send(&mut self, first: &[u8], second: &[u8]) -> bool {
+    /// the system, and keeps the rest to be sent when the system tells that the peer takes more. Where the stream fails, or
+    /// there is no room for the rest, the error says how many bytes were sent.
+    fn send(&mut self, first: &[u8], second: &[u8]) -> Result<(), usize>
+        ensures { IfErr result (λ n. n ≤ length (first.now ++ second.now)) }
+    {
         let mut sent = 0;
         if !self.has_unsent() {
             self.times.begin_page();
             let Some(n) = write_now(&self.origin.stream, first, second) else {
-                return false;
+                return Err(0);
             };
             self.times.count_sent(n);
             self.told.note_write();
             sent = n;
         }
-        self.outgoing.keep(first, second, sent)
+        if self.outgoing.keep(first, second, sent) {
+            Ok(())
+        } else {
+            Err(sent)
+        }
     }
 
     /// Sends what is unsent, as much as goes now. Answers whether the stream still works.

@@ -1,5 +1,5 @@
 //! What goes out on a connection and was not sent yet.
-ghost use Rattle.std.specs.Prelude.{◌≤◌, ◌++◌, length};
+ghost use Rattle.std.specs.Prelude.{◌≡◌, ◌≤◌, ◌++◌, length, drop, if◌then◌else◌};
 
 use std::alloc::Global;
 
@@ -48,16 +48,25 @@ impl Outgoing {
         self.unsent.get(self.sent..).unwrap_or_default()
     }
 
-    /// Keeps what two pieces have behind their first bytes, which were sent. Answers whether there was room for them.
+    /// Keeps all that two pieces have behind their first bytes, which were sent, or nothing of it. Answers whether there was
+    /// room for it.
     pub fn keep(&mut self, first: &[u8], second: &[u8], sent: usize) -> bool
         requires { sent ≤ length (first.now ++ second.now) }
+        ensures { self.new.unsent.items ≡ (if result then self.old.unsent.items ++ drop sent (first.now ++ second.now) else self.old.unsent.items) }
     {
         let (front, back) = behind(first, second, sent);
-        self.keep_piece(front) && self.keep_piece(back)
+        let before = self.unsent.len();
+        let is_kept = self.keep_piece(front) && self.keep_piece(back);
+        if !is_kept {
+            self.unsent.truncate(before);
+        }
+        is_kept
     }
 
     /// Keeps one piece. Answers whether there was room for it.
-    fn keep_piece(&mut self, piece: &[u8]) -> bool {
+    fn keep_piece(&mut self, piece: &[u8]) -> bool
+        ensures { self.new.unsent.items ≡ (if result then self.old.unsent.items ++ piece.now else self.old.unsent.items) }
+    {
         let has_room = self.unsent.len() < MOST_UNSENT;
         piece.is_empty() || (has_room && self.unsent.extend_from_slice(piece).is_ok())
     }
@@ -75,6 +84,7 @@ impl Outgoing {
 /// What two pieces have behind their first bytes.
 fn behind<'a>(first: &'a [u8], second: &'a [u8], n: usize) -> (&'a [u8], &'a [u8])
     requires { n ≤ length (first.now ++ second.now) }
+    ensures { result.0.now ++ result.1.now ≡ drop n (first.now ++ second.now) }
 {
     if n < first.len() {
         (&first[n..], second)

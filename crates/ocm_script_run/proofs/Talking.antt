@@ -16,7 +16,7 @@ use Rattle.ocm_http.specs.declared.messages.Message.{Message}
 use Rattle.ocm_http.specs.declared.messages.FrameFault.{FrameFault}
 use Rattle.ocm_http.specs.declared.messages.FrameFault.TheVariants as faults
 use Rattle.ocm_http.proofs.Stable.{frame_stays}
-use Rattle.ocm_base.specs.Outside.{Takes}
+use Rattle.ocm_base.specs.Outside.{Takes, flow}
 use Rattle.ocm_dav.specs.declared.configs.Config.{Config}
 use Rattle.ocm_dav.specs.declared.wants.Wanted.{Wanted}
 use Rattle.ocm_dav.specs.declared.wants.Wanted.TheVariants as wants
@@ -84,9 +84,9 @@ as_requests : (reader : ReaderState) (bytes : List ℕ) (ended : Bool) (frame : 
 as_requests reader bytes ended frame open_still is = subst (λ (z : Kind × ℕ). IsFrame z.0 z.1 reader.place bytes ended frame) (λ i. (open_still.kind i, open_still.max i)) is
 
 pub comes : (reader after : ReaderState) (old new : List ℕ) (message : Message) → IsOpen reader
-    → ReadsMessage reader (Some old) (Some new) (Given message after.held) after.held after.place → Comes reader after old new message
+    → ReadsMessage reader (flow (Some old) None) (flow (Some new) None) (Given message after.held) after.held after.place → Comes reader after old new message
 comes reader after old new message open_still reads =
-    let is = took old new reads.reading.got reads.reading.taken in
+    let is = took old new reads.reading.got reads.reading.taken.0 in
     record {
       is = given_frame reader.place reader.held reads.reading.got old new after.held message reads.ended is reads.reading.told (as_requests reader (reader.held ++ reads.reading.got) reads.ended (Given message after.held) open_still reads.reading.is_frame);
       front = reads.of_message;
@@ -94,14 +94,14 @@ comes reader after old new message open_still reads =
       place = reads.counted;
     }
 
-pub comes-over : (reader : ReaderState) (old new : List ℕ) → IsOpen reader → Reads reader (Some old) (Some new) true Over → AreRequests reader.place (reader.held ++ old) Over
+pub comes-over : (reader : ReaderState) (old new : List ℕ) → IsOpen reader → Reads reader (flow (Some old) None) (flow (Some new) None) true Over → AreRequests reader.place (reader.held ++ old) Over
 comes-over reader old new open_still reads =
-    let is = took old new reads.got reads.taken in
+    let is = took old new reads.got reads.taken.0 in
     subst (λ b. AreRequests reader.place b Over) (end_same reader.held reads.got old new is (reads.told refl)) (as_requests reader (reader.held ++ reads.got) true Over open_still reads.is_frame)
 
-pub comes-refused : (reader : ReaderState) (old new : List ℕ) (fault : FrameFault) (ended : Bool) → IsOpen reader → Reads reader (Some old) (Some new) ended (Refused fault) → AreRequests reader.place (reader.held ++ old) (Refused fault)
+pub comes-refused : (reader : ReaderState) (old new : List ℕ) (fault : FrameFault) (ended : Bool) → IsOpen reader → Reads reader (flow (Some old) None) (flow (Some new) None) ended (Refused fault) → AreRequests reader.place (reader.held ++ old) (Refused fault)
 comes-refused reader old new fault ended open_still reads =
-    let is = took old new reads.got reads.taken in
+    let is = took old new reads.got reads.taken.0 in
     refused_frame reader.place reader.held reads.got old new fault ended is reads.told (as_requests reader (reader.held ++ reads.got) ended (Refused fault) open_still reads.is_frame)
 
 -- ---- calls
@@ -300,7 +300,7 @@ not_last wanted line message clock calls text number (inr (answers, ends, shown)
 
 -- bytes that are no message end the connection
 pub talk-stops : (config : Config) (line : ℕ) (fresh : List ℕ) (number : ℕ) (reader : ReaderState) (old new : List ℕ) (server : Server) (fault : FrameFault) → IsOpen reader
-    → ((fault ≡ faults.ReadFault → ⊥) → (fault ≡ faults.NoMemory → ⊥) → (ended : Bool) × Reads reader (Some old) (Some new) ended (Refused fault))
+    → ((fault ≡ faults.ReadFault → ⊥) → (fault ≡ faults.NoMemory → ⊥) → (ended : Bool) × Reads reader (flow (Some old) None) (flow (Some new) None) ended (Refused fault))
     → IsTalk config line fresh number reader.place (reader.held ++ old) server server (refused_lines line fault)
 talk-stops config line fresh number reader old new server faults.ReadFault open_still h = talk-stuck config line fresh number reader.place (reader.held ++ old) server
 talk-stops config line fresh number reader old new server faults.NoMemory open_still h = talk-stuck config line fresh number reader.place (reader.held ++ old) server

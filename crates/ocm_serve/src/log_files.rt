@@ -1,5 +1,5 @@
 //! The file of a server's log, with what an administrator is told of it.
-ghost use Rattle.std.specs.Prelude.{◌≡◌, None, IfOk};
+ghost use Rattle.std.specs.Prelude.{◌≡◌, [], Some, IfOk};
 
 use ocm_base::{Failed, Sink};
 use ocm_log_files::{LogFault, LogFile};
@@ -41,7 +41,8 @@ pub(crate) fn open_log<'a, R: Files<File = File> + Eprint>(
     path: &str,
     disk: &str,
 ) -> Result<ToldLog<'a, R>, OpenFault>
-    ensures { IfOk result (λ log. ⟦<LogFile as Sink>⟧.faults log.file ≡ 0) }
+    ensures faults { IfOk result (λ log. ⟦<LogFile as Sink>⟧.faults log.file ≡ 0) }
+    ensures taken { IfOk result (λ log. ⟦<LogFile as Sink>⟧.taken log.file ≡ Some []) }
 {
     check_path(rt, path, disk)?;
     match LogFile::open(rt, alloc, path) {
@@ -98,7 +99,7 @@ fn open_fault(fault: LogFault) -> OpenFault {
 }
 
 impl<'a, R: Eprint> Sink for ToldLog<'a, R> {
-    ghost taken = { λ _. None };
+    ghost taken = { λ log. ⟦<LogFile as Sink>⟧.taken log.file };
 
     ghost faults = { λ log. ⟦<LogFile as Sink>⟧.faults log.file };
 

@@ -101,9 +101,9 @@ module _ {D T K : Type 0} (disk : Ghosts D) (followed : T → Followed D disk) (
 -- a server that ran with a log, by what is told of its load and of the store that was served
 pub logged_ran : {D : Type 0} (disk : Ghosts D) (only_now : (d : D) (c : List ℕ) → disk.left_since d (disk.moment d) c → disk.may_leave d c) (plan : Plan) (area limit : ℕ) (IsBase : List Entry → Type 0)
     (before after : D) (calls own : ℕ) (IsEach : Config → Gate → Known (Origin D disk) → Past → List (List Call) → Type 0) (config : Config) (store : Store D disk) (bytes : Option (List ℕ)) (count lost : ℕ) (short : Bool)
-    → config ≡ config_of plan → host_of store ≡ plan.host → (disk.tells → IsOfArea plan.host area (area_of store) (disk.seen before))
-    → (disk.tells → LeavesOnly disk.moment disk.left_since before (disk_of store) (λ x. disk.may_leave before x ⊎ StaysAsItOpens plan.host area (disk.seen before) x))
-    → ((k : List Entry) → IsBase k → IsOpenedTo disk plan.host area before k)
+    → config ≡ config_of plan → host_of store ≡ plan.host → (disk.tells → disk.faithful (disk_of store) → IsOfArea plan.host area (area_of store) (disk.seen before))
+    → (disk.tells → disk.faithful (disk_of store) → LeavesOnly disk.moment disk.left_since before (disk_of store) (λ x. disk.may_leave before x ⊎ StaysAsItOpens plan.host area (disk.seen before) x))
+    → ((k : List Entry) → IsBase k → IsOpenedTo disk plan.host area before (disk_of store) k)
     → (s : WasServed disk limit IsBase store after calls own (IsEach config)) × IsLogOf bytes count lost short (host_of store) s.first.base s.service.history
     → (run : Ran disk plan area limit before after calls own IsEach) × IsLogOf bytes count lost short plan.host run.served.first.base run.served.service.history
 logged_ran disk only_now plan area limit IsBase before after calls own IsEach config store bytes count lost short config_is host_is area_is loaded opens (s, log) = (
@@ -128,7 +128,7 @@ logged_ran disk only_now plan area limit IsBase before after calls own IsEach co
       back = s.back;
     };
     all_own = s.service.all_own;
-    any_moment = λ tells. run-leaves disk only_now plan.host area limit IsBase store before after calls own (IsEach config) s tells (loaded tells);
+    any_moment = λ tells faithful. run-leaves disk only_now plan.host area limit IsBase store before after calls own (IsEach config) s tells (loaded tells faithful);
     kept = λ done later is. run-keeps disk only_now limit IsBase store after calls own (IsEach config) s done later is;
     since = λ tells. run-since disk only_now limit IsBase store after calls own (IsEach config) s tells;
   },

@@ -82,12 +82,12 @@ where
         × IsLogOf (K.taken result.sink) (K.faults result.sink) result.left_out result.out_of_memory plan.now.host run.served.first.base run.served.service.history }
     ensures ended { (calls own : ℕ) → result.served ≡ Served.Ended calls own → (i : ℕ) (d : _) → i < length workers.new → (slice_index_or workers.new i d).end ≡ rounds.Ended }
     ensures fault { (calls own : ℕ) → result.served ≡ Served.DoorFault calls own → (i : ℕ) × (i < length workers.new) × ((d : _) → (slice_index_or workers.new i d).end ≡ rounds.DoorFault) }
-    ensures said { D.tells → IsSaid (loading plan.now.host (new_area served_disk_bytes) (D.seen disk)) result.served }
+    ensures said { D.tells → D.faithful result.disk → IsSaid (loading plan.now.host (new_area served_disk_bytes) (D.seen disk)) result.served }
     ensures counted { IsCounted (D.count disk) (D.count result.disk) result.served }
     ensures unfailing { ((n : ℕ) → D.passes disk n) → IsDiskFault result.served → ⊥ }
     ensures unasked { IsUnserved result.served → workers.new ≡ workers.old }
-    ensures unserved { D.tells → IsUnserved result.served → LeavesOnly D.moment D.left_since disk result.disk (λ c. D.may_leave disk c ⊎ StaysAsItOpens plan.now.host (new_area served_disk_bytes) (D.seen disk) c) }
-    ensures kept { D.tells → IsUnserved result.served → StaysAsItOpens plan.now.host (new_area served_disk_bytes) (D.seen disk) (D.seen result.disk) }
+    ensures unserved { D.tells → D.faithful result.disk → IsUnserved result.served → LeavesOnly D.moment D.left_since disk result.disk (λ c. D.may_leave disk c ⊎ StaysAsItOpens plan.now.host (new_area served_disk_bytes) (D.seen disk) c) }
+    ensures kept { D.tells → D.faithful result.disk → IsUnserved result.served → StaysAsItOpens plan.now.host (new_area served_disk_bytes) (D.seen disk) (D.seen result.disk) }
     // Then no line was written, and none left out.
     ensures unlogged { IsUnserved result.served → (result.sink ≡ sink) × (result.left_out ≡ 0) × (result.out_of_memory ≡ false) }
 {

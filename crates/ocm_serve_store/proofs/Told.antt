@@ -137,9 +137,9 @@ unserved (loads.DiskFault count) c o has = has
 unserved loads.NoMemory c o has = has
 
 -- the same host and the same disk open to the same list
-pub opened_same : {D : Type 0} (disk : Ghosts D) (area : ℕ) (host host2 : List ℕ) (before before2 : D) (k : List Entry) → host ≡ host2 → before ≡ before2 → IsOpenedTo disk host area before k → IsOpenedTo disk host2 area before2 k
-opened_same {D} disk area host host2 before before2 k same same2 opens =
-    subst (λ (d : D). IsOpenedTo disk host2 area d k) same2 (subst (λ (h : List ℕ). IsOpenedTo disk h area before k) same opens)
+pub opened_same : {D : Type 0} (disk : Ghosts D) (area : ℕ) (host host2 : List ℕ) (before before2 loaded : D) (k : List Entry) → host ≡ host2 → before ≡ before2 → IsOpenedTo disk host area before loaded k → IsOpenedTo disk host2 area before2 loaded k
+opened_same {D} disk area host host2 before before2 loaded k same same2 opens =
+    subst (λ (d : D). IsOpenedTo disk host2 area d loaded k) same2 (subst (λ (h : List ℕ). IsOpenedTo disk h area before loaded k) same opens)
 
 -- what is known of a base by other words
 pub based : {D : Type 0} (disk : Ghosts D) (limit : ℕ) (IsBase IsBase2 : List Entry → Type 0) (store : Store D disk) (after : D) (c o : ℕ) (IsEach : Gate → Known (Origin D disk) → Past → List (List Call) → Type 0)

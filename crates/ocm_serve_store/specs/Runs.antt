@@ -72,9 +72,9 @@ abbrev pub IsCounted : ℕ → ℕ → Served → Type 0
 IsCounted before now (DiskFault count) = (count ≡ now) × (now ≡ raised before)
 IsCounted before now _ = Unit {0}
 
--- a disk opens to this list, where it tells its bytes; a new journal would have areas of this size
-abbrev pub IsOpenedTo : {D : Type 0} → Ghosts D → List ℕ → ℕ → D → List Entry → Type 0
-IsOpenedTo disk host area before k = disk.tells → (loading host area (disk.seen before) ≡ Ok k) × OpensTo host area k (disk.seen before)
+-- a disk opens to this list, where it tells its bytes and has read them faithfully once it is loaded; a new journal would have areas of this size
+abbrev pub IsOpenedTo : {D : Type 0} → Ghosts D → List ℕ → ℕ → D → D → List Entry → Type 0
+IsOpenedTo disk host area before loaded k = disk.tells → disk.faithful loaded → (loading host area (disk.seen before) ≡ Ok k) × OpensTo host area k (disk.seen before)
 
 -- What a crash leaves at some moment of a run that loaded a store from a disk and made the calls h after the list k: what it might have left
 -- before, the same bytes or, where the disk was blank, what opens to no records, or what may follow at some place of the calls.
@@ -117,11 +117,11 @@ pub record Ran {D : Type 0} (disk : Ghosts D) (plan : Plan) (area limit : ℕ) (
   pub config_is : config ≡ config_of plan
   pub store : Store D disk
   pub host_is : host_of store ≡ plan.host
-  pub area_is : disk.tells → IsOfArea plan.host area (area_of store) (disk.seen before)
-  pub served : WasServed disk limit (IsOpenedTo disk plan.host area before) store after calls own (IsEach config)
+  pub area_is : disk.tells → disk.faithful (disk_of store) → IsOfArea plan.host area (area_of store) (disk.seen before)
+  pub served : WasServed disk limit (IsOpenedTo disk plan.host area before (disk_of store)) store after calls own (IsEach config)
   pub all_own : own ≡ calls
   -- a crash at any moment of the run
-  pub any_moment : disk.tells → LeavesOnly disk.moment disk.left_since before after (LeavesInRun disk plan.host area before (terms_of store) served.first.base served.service.history)
+  pub any_moment : disk.tells → disk.faithful (disk_of store) → LeavesOnly disk.moment disk.left_since before after (LeavesInRun disk plan.host area before (terms_of store) served.first.base served.service.history)
   -- what was answered is not lost
   pub kept : (done later : List Entry) → served.service.history ≡ later ++ done → KeepsDone disk store served.first.base done later (store_of served.left)
   -- since the moment of the disk behind a call a crash leaves what may follow it, or a later call
@@ -137,9 +137,9 @@ pub record RunsTo {D W : Type 0} (disk : Ghosts D) (plan : Plan) (new limit : �
   pub ended : (calls own : ℕ) → came ≡ Ended calls own → (i : ℕ) (d : W) → i < length left → end (slice_index_or left i d) ≡ rounds.Ended
   pub fault : (calls own : ℕ) → came ≡ DoorFault calls own → (i : ℕ) × (i < length left) × ((d : W) → end (slice_index_or left i d) ≡ rounds.DoorFault)
   -- what is told of the disk is what its bytes say, or the count of its faults, which rose; then no door was asked
-  pub said : disk.tells → IsSaid (loading plan.host new (disk.seen before)) came
+  pub said : disk.tells → disk.faithful after → IsSaid (loading plan.host new (disk.seen before)) came
   pub counted : IsCounted (disk.count before) (disk.count after) came
   pub unfailing : ((n : ℕ) → disk.passes before n) → IsDiskFault came → ⊥
   pub unasked : IsUnserved came → left ≡ workers
-  pub unserved : disk.tells → IsUnserved came → LeavesOnly disk.moment disk.left_since before after (λ c. disk.may_leave before c ⊎ StaysAsItOpens plan.host new (disk.seen before) c)
-  pub kept : disk.tells → IsUnserved came → StaysAsItOpens plan.host new (disk.seen before) (disk.seen after)
+  pub unserved : disk.tells → disk.faithful after → IsUnserved came → LeavesOnly disk.moment disk.left_since before after (λ c. disk.may_leave before c ⊎ StaysAsItOpens plan.host new (disk.seen before) c)
+  pub kept : disk.tells → disk.faithful after → IsUnserved came → StaysAsItOpens plan.host new (disk.seen before) (disk.seen after)

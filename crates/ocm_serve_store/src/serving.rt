@@ -67,16 +67,16 @@ where
     ensures fault { (calls own : ℕ) → result.0 ≡ Served.DoorFault calls own → (i : ℕ) × (i < length workers.new) × ((d : _) → (slice_index_or workers.new i d).end ≡ rounds.DoorFault) }
 
     // What is told of the disk is what its bytes say, or the count of its faults, which rose; then no door was asked.
-    ensures said { D.tells → IsSaid (loading plan.now.host (new_area served_disk_bytes) (D.seen disk)) result.0 }
+    ensures said { D.tells → D.faithful result.1 → IsSaid (loading plan.now.host (new_area served_disk_bytes) (D.seen disk)) result.0 }
     ensures counted { IsCounted (D.count disk) (D.count result.1) result.0 }
     ensures unfailing { ((n : ℕ) → D.passes disk n) → IsDiskFault result.0 → ⊥ }
     ensures unasked { IsUnserved result.0 → workers.new ≡ workers.old }
 
     // A crash at any moment leaves what it might have left before, or what opens as the disk did.
-    ensures unserved { D.tells → IsUnserved result.0 → LeavesOnly D.moment D.left_since disk result.1 (λ c. D.may_leave disk c ⊎ StaysAsItOpens plan.now.host (new_area served_disk_bytes) (D.seen disk) c) }
+    ensures unserved { D.tells → D.faithful result.1 → IsUnserved result.0 → LeavesOnly D.moment D.left_since disk result.1 (λ c. D.may_leave disk c ⊎ StaysAsItOpens plan.now.host (new_area served_disk_bytes) (D.seen disk) c) }
 
     // Then the disk reads as before, or, where no journal was made on it before, it opens to nothing as before.
-    ensures kept { D.tells → IsUnserved result.0 → StaysAsItOpens plan.now.host (new_area served_disk_bytes) (D.seen disk) (D.seen result.1) }
+    ensures kept { D.tells → D.faithful result.1 → IsUnserved result.0 → StaysAsItOpens plan.now.host (new_area served_disk_bytes) (D.seen disk) (D.seen result.1) }
 {
     let Ok((config, host)) = names_of(plan) else {
         return (Served::NoMemory, disk);

@@ -1,2 +1,3 @@
 pub mod Keys
+pub mod Openings
 pub mod Statuses

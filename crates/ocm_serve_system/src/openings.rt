@@ -1,8 +1,10 @@
-ghost use Rattle.std.specs.Prelude.{◌≡◌};
+ghost use Rattle.std.specs.Prelude.{◌≡◌, true, IfOk};
+ghost use Rattle.ocm_serve_system.specs.Openings.{IsOpenedWith};
 ghost use Rattle.ocm_serve_system.specs.Statuses.{IsStatus, fault_status};
 
 use libc::types::rlimit;
-use ocm_disk::FileDisk;
+use ocm_base::GhostBytes;
+use ocm_disk::{Disk, FileDisk, Missing};
 use ocm_net_sockets::{Entrance, Limits};
 use ocm_net_waits::Bell;
 use ocm_serve_options::Plan;
@@ -168,6 +170,9 @@ pub enum OpenFault {
     /// The disk's file cannot be opened or made.
     #[error("the disk's file cannot be opened{0}")]
     Disk(Cause),
+    /// There is no file for the disk, and none is to be made.
+    #[error("there is no journal at the path of --disk, and --existing makes none: for a new server make an empty file there")]
+    NoDisk,
     /// Another process has the disk's file.
     #[error("another server has the disk's file")]
     DiskInUse,
@@ -213,16 +218,24 @@ impl OpenFault {
 }
 
 impl Opening {
-    /// Reads the key, listens, and then opens the disk, as a plan says. Where the key or the address is at fault, no file
-    /// is made.
+    /// Reads the key, listens, and then opens the disk, as a plan says. No file is made where the key or the address is at
+    /// fault, or where the plan wants one that exists. What the disk holds is said by the caller, for contracts alone.
     pub fn new<R: Files<File = File> + Net<Listener = TcpListener, Stream = TcpStream>>(
         rt: &R,
         alloc: Global,
         plan: &Plan,
-    ) -> Result<Opening, OpenFault> {
+        holds: GhostBytes,
+    ) -> Result<Opening, OpenFault>
+        ensures { IfOk result (λ opening. IsOpenedWith ⟦<FileDisk as Disk>⟧ holds.bytes opening.disk) }
+    {
         let draw_key = read_key(rt, plan.key_file.as_str()).map_err(key_fault)?;
         let (entrance, posts) = listen(rt, alloc, plan).map_err(listen_fault)?;
-        match FileDisk::open(rt, plan.disk.as_str()) {
+        let missing = if plan.existing {
+            Missing::Refuse
+        } else {
+            Missing::Make
+        };
+        match FileDisk::open(rt, plan.disk.as_str(), missing, holds) {
             Ok(disk) => Ok(Opening {
                 entrance,
                 posts,
@@ -232,7 +245,7 @@ impl Opening {
             Err(error) => {
                 drop(entrance);
                 drop(posts);
-                Err(disk_fault(error))
+                Err(disk_fault(error, plan.existing))
             }
         }
     }
@@ -303,8 +316,12 @@ fn key_fault(error: io::Error) -> OpenFault {
     }
 }
 
-fn disk_fault(error: io::Error) -> OpenFault {
+/// Why the file of the disk cannot be opened, which has to exist or is made.
+fn disk_fault(error: io::Error, existing: bool) -> OpenFault
+    ensures { result ≡ OpenFault.NoDisk → existing ≡ true }
+{
     match error.kind() {
+        ErrorKind::NotFound if existing => OpenFault::NoDisk,
         ErrorKind::WouldBlock => OpenFault::DiskInUse,
         ErrorKind::OutOfMemory => OpenFault::NoMemory,
         _ => OpenFault::Disk(Cause::of(&error)),

@@ -39,6 +39,8 @@ impl<'a, R: Eprint, D: Disk> ToldDisk<'a, R, D> {
 impl<'a, R: Eprint, D: Disk> Disk for ToldDisk<'a, R, D> {
     ghost tells = { D.tells };
 
+    ghost faithful = { λ d. D.faithful d.disk };
+
     ghost seen = { λ d. D.seen d.disk };
 
     ghost size = { λ d. D.size d.disk };

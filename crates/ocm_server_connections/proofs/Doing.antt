@@ -1,16 +1,12 @@
 -- One deed after another.
 use Rattle.std.proofs.Common.{ℕ, ◌++◌, List, [], ◌∷◌, Option, Some, None, sym, refl, ap, subst, append-nil, append_assoc, arith}
 use Rattle.rand_chacha.specs.ChaCha.{ChaCha}
-use Rattle.ocm_base.specs.Outside.{Appends, Takes}
-use Rattle.ocm_base.proofs.Pieces.{Appends-twice, Takes-twice}
+use Rattle.ocm_base.specs.Outside.{Appends}
+use Rattle.ocm_base.proofs.Pieces.{Appends-twice, came_none, came_twice}
 use Rattle.ocm_server_connections.specs.Drawing.{Draws, moved}
 use Rattle.ocm_turn.proofs.MoveLemmas.{moved_nothing, moved_then}
 use Rattle.ocm_server_connections.specs.Sides.{Noted, Notes}
 use Rattle.ocm_server_connections.specs.Parts.{State, Deeds, Does}
-
-pub takes_nothing : (a : Option (List ℕ)) → Takes a a []
-takes_nothing (Some rest) = refl
-takes_nothing None = refl
 
 pub appends_nothing : (a : Option (List ℕ)) → Appends a a []
 appends_nothing (Some held) = ap Some (sym (append-nil held))
@@ -46,7 +42,7 @@ both x y = record {
 module _ {Terms : Type 0} where
   pub does_nothing : (a : State Terms) → Does a a nothing
   does_nothing a = record {
-    read = takes_nothing a.sides.left;
+    read = came_none a.sides.flow;
     written = appends_nothing a.sides.taken;
     noted = notes_nothing a.sides.noted;
     read_faults = omega arith;
@@ -58,7 +54,7 @@ module _ {Terms : Type 0} where
 
   pub does_then : (a b c : State Terms) (x y : Deeds) → Does a b x → Does b c y → Does a c (both x y)
   does_then a b c x y p q = record {
-    read = Takes-twice a.sides.left b.sides.left c.sides.left x.read y.read p.read q.read;
+    read = came_twice a.sides.flow b.sides.flow c.sides.flow x.read y.read p.read q.read;
     written = Appends-twice a.sides.taken b.sides.taken c.sides.taken x.written y.written p.written q.written;
     noted = notes_then a.sides.noted b.sides.noted c.sides.noted x.noted y.noted p.noted q.noted;
     read_faults = omega (arith, p.read_faults, q.read_faults);

@@ -2,7 +2,7 @@
 use Rattle.std.proofs.Common.{◌≡◌, ℕ, ◌≤◌, List, ◌++◌, length, take, drop, Bool, true, Option, Some, None, Result, Ok, Err, refl, sym, subst, ◌∙◌}
 use Rattle.std.specs.Prelude.{IfOk, IfErr, IfSome, OnOk, OnErr, is_err}
 use Rattle.std.proofs.lemmas.List.{take-append-drop}
-use Rattle.ocm_base.specs.Outside.{Rose, Appends, AppendsPart, Takes}
+use Rattle.ocm_base.specs.Outside.{Rose, Appends, AppendsPart, Came}
 use Rattle.ocm_texts.specs.declared.failures.Failed.{Failed}
 use Rattle.ocm_http.specs.Places.{past}
 use Rattle.ocm_http.specs.Frames.{Frame, Given, Refused, Over, IsFrame}
@@ -16,13 +16,13 @@ use Rattle.ocm_http.proofs.Requests.{message_request, request_whole}
 
 -- ---- writing
 
-pub sends : (old new : Sides) (piece : List ℕ) (as_noted : List ℕ → List Noted) (r : Result (Unit {0}) Failed) → new.left ≡ old.left → old.read_faults ≤ new.read_faults → old.write_faults ≤ new.write_faults
+pub sends : (old new : Sides) (piece : List ℕ) (as_noted : List ℕ → List Noted) (r : Result (Unit {0}) Failed) → new.flow ≡ old.flow → old.read_faults ≤ new.read_faults → old.write_faults ≤ new.write_faults
     → OnOk r (Appends old.taken new.taken piece) → OnErr r (AppendsPart old.taken new.taken piece) → OnErr r (Rose old.write_faults new.write_faults) → ((written : List ℕ) → Notes old.noted new.noted (as_noted written))
     → Sends old new piece as_noted r
 unfolding Sends
-sends old new piece as_noted (Ok done) left reads writes ok err rose notes = record { left = left; taken = ok; noted = notes piece; read_faults = reads; write_faults = writes }
+sends old new piece as_noted (Ok done) left reads writes ok err rose notes = record { flow = left; taken = ok; noted = notes piece; read_faults = reads; write_faults = writes }
 sends old new piece as_noted (Err failed) left reads writes ok err rose notes =
-    (take err.0 piece, record { left = left; taken = err.2; noted = notes (take err.0 piece); read_faults = reads; write_faults = writes }, (drop err.0 piece, sym (take-append-drop err.0 piece)), rose)
+    (take err.0 piece, record { flow = left; taken = err.2; noted = notes (take err.0 piece); read_faults = reads; write_faults = writes }, (drop err.0 piece, sym (take-append-drop err.0 piece)), rose)
 
 -- ---- reading
 
@@ -31,8 +31,8 @@ requests_of : (reader : ReaderState) (bytes : List ℕ) (ended : Bool) (frame : 
 unfolding IsRequests
 requests_of reader bytes ended frame open_still is = subst (λ (z : Kind × ℕ). IsFrame z.0 z.1 reader.place bytes ended frame) (λ i. (open_still.kind i, open_still.max i)) is
 
-read_of : (old new : Sides) (got : List ℕ) → Takes old.left new.left got → new.taken ≡ old.taken → new.noted ≡ old.noted → old.read_faults ≤ new.read_faults → old.write_faults ≤ new.write_faults → Read old new got
-read_of old new got takes same as_noted reads writes = record { left = takes; taken = same; noted = as_noted; read_faults = reads; write_faults = writes }
+read_of : (old new : Sides) (got : List ℕ) → Came old.flow new.flow got → new.taken ≡ old.taken → new.noted ≡ old.noted → old.read_faults ≤ new.read_faults → old.write_faults ≤ new.write_faults → Read old new got
+read_of old new got takes same as_noted reads writes = record { flow = takes; taken = same; noted = as_noted; read_faults = reads; write_faults = writes }
 
 gives_request : (reader after : ReaderState) (got : List ℕ) (message : Message) (front : List ℕ) (ended : Bool) → IsOpen reader → IsOpen after → reader.held ++ got ≡ front ++ after.held
     → after.place ≡ past reader.place (length front) → IsRequests reader.place (reader.held ++ got) ended (Given message after.held)
@@ -49,7 +49,7 @@ gives_request reader after got message front ended open_still open_after split p
 
 -- a fault other than want of memory and of the source
 abbrev IsOfBytes : ReaderState → Sides → Sides → FrameFault → Type 0
-IsOfBytes reader old new fault = (ended : Bool) × Reads reader old.left new.left ended (Refused fault)
+IsOfBytes reader old new fault = (ended : Bool) × Reads reader old.flow new.flow ended (Refused fault)
 
 module _ (reader after : ReaderState) (old new : Sides) (open_still : IsOpen reader) (same : new.taken ≡ old.taken) (as_noted : new.noted ≡ old.noted) (reads : old.read_faults ≤ new.read_faults) (writes : old.write_faults ≤ new.write_faults) where
   gives_bytes : (fault : FrameFault) → IsOfBytes reader old new fault
@@ -59,8 +59,8 @@ module _ (reader after : ReaderState) (old new : Sides) (open_still : IsOpen rea
       let r = of_bytes.1 in
       (r.got, read_of old new r.got r.taken same as_noted reads writes, make r.got of_bytes.0 r.told (requests_of reader (reader.held ++ r.got) of_bytes.0 (Refused fault) open_still r.is_frame))
 
-  gives_fault : (fault : FrameFault) → ((got : List ℕ) × Takes old.left new.left got)
-      → ((fault ≡ faults.ReadFault → ⊥) → (fault ≡ faults.NoMemory → ⊥) → (ended : Bool) × Reads reader old.left new.left ended (Refused fault))
+  gives_fault : (fault : FrameFault) → ((got : List ℕ) × Came old.flow new.flow got)
+      → ((fault ≡ faults.ReadFault → ⊥) → (fault ≡ faults.NoMemory → ⊥) → (ended : Bool) × Reads reader old.flow new.flow ended (Refused fault))
       → (fault ≡ faults.ReadFault → Rose old.read_faults new.read_faults)
       → (got : List ℕ) × Read old new got × GivesFault reader old new got fault
   unfolding GivesFault
@@ -75,11 +75,11 @@ module _ (reader after : ReaderState) (old new : Sides) (open_still : IsOpen rea
   gives_fault faults.NoMemory taken of_bytes rose = (taken.0, read_of old new taken.0 taken.1 same as_noted reads writes, tt)
 
   pub gives : (r : Result (Option Message) FrameFault)
-      → IfOk r (λ o. IfSome o (λ m. ReadsMessage reader old.left new.left (Given m after.held) after.held after.place))
-      → IfOk r (λ o. o ≡ None → Reads reader old.left new.left true Over)
-      → IfErr r (λ f. (f ≡ faults.ReadFault → ⊥) → (f ≡ faults.NoMemory → ⊥) → (ended : Bool) × Reads reader old.left new.left ended (Refused f))
+      → IfOk r (λ o. IfSome o (λ m. ReadsMessage reader old.flow new.flow (Given m after.held) after.held after.place))
+      → IfOk r (λ o. o ≡ None → Reads reader old.flow new.flow true Over)
+      → IfErr r (λ f. (f ≡ faults.ReadFault → ⊥) → (f ≡ faults.NoMemory → ⊥) → (ended : Bool) × Reads reader old.flow new.flow ended (Refused f))
       → (r ≡ Err faults.ReadFault → Rose old.read_faults new.read_faults)
-      → ((got : List ℕ) × Takes old.left new.left got)
+      → ((got : List ℕ) × Came old.flow new.flow got)
       → after.failed ≡ is_err r → after.kind ≡ reader.kind → after.max ≡ reader.max
       → Gives reader after old new r
   unfolding GivesOf

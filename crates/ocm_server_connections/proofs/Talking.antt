@@ -1,7 +1,8 @@
 -- What is said, message by message.
 use Rattle.std.proofs.Common.{◌≡◌, ◌≢◌, ℕ, ◌+◌, ◌≤◌, ◌++◌, List, [], ◌∷◌, length, Bool, true, false, if◌then◌else◌, Option, Some, None, Result, Ok, Err, sym, refl, ap, subst, ◌∙◌, append_assoc, append-nil, arith, inl, inr, eq-eqb, ne_eqb}
 use Rattle.std.specs.Prelude.{IsTrue, IfSome, IfNone}
-use Rattle.ocm_base.specs.Outside.{Appends, Takes, Rose}
+use Rattle.ocm_base.specs.Outside.{Appends, Flow, Came, IsDry, Rose}
+use Rattle.ocm_base.proofs.Pieces.{came_none}
 use Rattle.ocm_entry.specs.declared.entries.Entry.{Entry}
 use Rattle.ocm_http.specs.Places.{past}
 use Rattle.ocm_http.specs.Frames.{Given, Refused, Over, IsFrame}
@@ -31,7 +32,7 @@ use Rattle.ocm_server_connections.specs.Talk.{Talk, Shown, Stops, EndsWith, is_s
 use Rattle.ocm_server_connections.specs.Parts.{State, state, Deeds, Does, Stand, stand, Leads, Went, TalkedFrom, Talked, Goes, Served, Finishes, Writing, Refuses, RefusesAt}
 use Rattle.ocm_turn.proofs.MoveLemmas.{moved_nothing, moved_then, unspent_nothing, unspent_then}
 use Rattle.ocm_server_connections.proofs.Causes.{stops_cause, ends_cause}
-use Rattle.ocm_server_connections.proofs.Doing.{nothing, both, does_nothing, does_then, appends_nothing, notes_nothing, takes_nothing}
+use Rattle.ocm_server_connections.proofs.Doing.{nothing, both, does_nothing, does_then, appends_nothing, notes_nothing}
 
 -- the same lists say the same
 said_same : (K : List Entry → List ℕ → Type 0) (config : Config) (shown : Shown) (number place : ℕ) (ended : Bool) (ending : Ended)
@@ -96,10 +97,10 @@ rose_before : (a b c : ℕ) → Rose a b → b ≤ c → Rose a c
 rose_before a b c rose le = omega (arith, le, rose)
 
 pub wrote_nothing : (s : Sides) → Wrote s s [] []
-wrote_nothing s = record { left = refl; taken = appends_nothing s.taken; noted = notes_nothing s.noted; read_faults = omega arith; write_faults = omega arith }
+wrote_nothing s = record { flow = refl; taken = appends_nothing s.taken; noted = notes_nothing s.noted; read_faults = omega arith; write_faults = omega arith }
 
 pub read_nothing : (s t : Sides) → t ≡ s → Read s t []
-read_nothing s t e = subst (λ (z : Sides). Read s z []) (sym e) (record { left = takes_nothing s.left; taken = refl; noted = refl; read_faults = omega arith; write_faults = omega arith })
+read_nothing s t e = subst (λ (z : Sides). Read s z []) (sym e) (record { flow = came_none s.flow; taken = refl; noted = refl; read_faults = omega arith; write_faults = omega arith })
 
 unspent_by : (failed : Bool) (after : Option Ended) (answer : Result Page Missed) (written : List ℕ) (ending : Ended) → EndsWith failed after answer written ending → ending ≢ endings.Spent → is_spent answer ≡ false
 unfolding EndsWith
@@ -153,7 +154,7 @@ module _ {Terms : Type 0} where
         → Draws old.draw (fresh ∷ []) new.draw → Appends old.clock new.clock (now ∷ []) → Moved old.pass new.pass calls → Wrote middle new.sides written noted
         → Does old new (record { read = got; drawn = fresh ∷ []; clocks = now ∷ []; calls = calls; written = written; noted = noted })
     does_of fresh now calls written noted draws clock made wrote = record {
-      read = subst (λ (l : Option (List ℕ)). Takes old.sides.left l got) (sym wrote.left) read.left;
+      read = subst (λ (l : Flow). Came old.sides.flow l got) (sym wrote.flow) read.flow;
       written = subst (λ (l : Option (List ℕ)). Appends l new.sides.taken written) read.taken wrote.taken;
       noted = subst (λ (l : Option (List Noted)). Notes l new.sides.noted noted) read.noted wrote.noted;
       read_faults = omega (arith, read.read_faults, wrote.read_faults);
@@ -222,7 +223,7 @@ module _ {Terms : Type 0} where
   quiet : (old : State Terms) (middle final : Sides) (got written : List ℕ) → Read old.sides middle got → Wrote middle final written []
       → Does old (state final old.draw old.clock old.pass) (record { read = got; drawn = []; clocks = []; calls = []; written = written; noted = [] })
   quiet old middle final got written read wrote = record {
-    read = subst (λ (l : Option (List ℕ)). Takes old.sides.left l got) (sym wrote.left) read.left;
+    read = subst (λ (l : Flow). Came old.sides.flow l got) (sym wrote.flow) read.flow;
     written = subst (λ (l : Option (List ℕ)). Appends l final.taken written) read.taken wrote.taken;
     noted = subst (λ (l : Option (List Noted)). Notes l final.noted []) read.noted wrote.noted;
     read_faults = omega (arith, read.read_faults, wrote.read_faults);
@@ -245,7 +246,7 @@ module _ {Terms : Type 0} where
       does = quiet old middle final got written read wrote;
       unspent = λ h. unspent_nothing limit old.pass;
       ended = ended;
-      is_end = λ h. subst (λ (l : Option (List ℕ)). IfSome l (λ rest. rest ≡ [])) (sym wrote.left) (is_end h);
+      is_end = λ h. subst (λ (l : Flow). IsDry l) (sym wrote.flow) (is_end h);
       shown = shown;
       shows = record {
         read_rose = read_rose;

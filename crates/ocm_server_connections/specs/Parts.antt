@@ -1,7 +1,7 @@
 -- Parts of what is said on a connection, and what they leave.
 use Rattle.std.specs.Prelude.{◌≡◌, ◌≢◌, ℕ, ◌≤◌, ◌⊎◌, Bool, false, List, [], ◌∷◌, ◌++◌, Option, Some, None, Result, Ok, Err, IsTrue}
 use Rattle.rand_chacha.specs.ChaCha.{ChaCha}
-use Rattle.ocm_base.specs.Outside.{Rose, Appends, Takes}
+use Rattle.ocm_base.specs.Outside.{Rose, Appends, Came}
 use Rattle.ocm_entry.specs.declared.asks.Ask.{Ask}
 use Rattle.ocm_entry.specs.declared.entries.Entry.{Entry}
 use Rattle.ocm_entry.specs.declared.replies.Reply.{Reply}
@@ -43,7 +43,7 @@ pub record Deeds : Type 0 where
 
 -- these deeds lead from one state to another
 pub record Does {Terms : Type 0} (old new : State Terms) (deeds : Deeds) : Type 0 where
-  pub read : Takes old.sides.left new.sides.left deeds.read
+  pub read : Came old.sides.flow new.sides.flow deeds.read
   pub written : Appends old.sides.taken new.sides.taken deeds.written
   pub noted : Notes old.sides.noted new.sides.noted deeds.noted
   pub read_faults : old.sides.read_faults ≤ new.sides.read_faults

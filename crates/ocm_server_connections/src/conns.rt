@@ -9,7 +9,7 @@ use ocm_turn::{Dated, Pass};
 
 /// A connection: a source and a sink in one, of which neither disturbs the other.
 pub trait Conn: Drop {
-    /// What it has left, what it took and what it noted of its pages, where it knows them, and its faults.
+    /// What came and what it has left, what it took and what it noted of its pages, where it knows them, and its faults.
     ghost sides: { Self → Sides };
 
     /// Reads the next message.

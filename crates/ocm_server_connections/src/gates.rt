@@ -1,6 +1,6 @@
 //! Connections in memory that wait for one another, by gates between their threads.
 
-ghost use Rattle.std.specs.Prelude.{◌≡◌, ◌<◌, ◌≤◌, Some, length};
+ghost use Rattle.std.specs.Prelude.{◌≡◌, ◌<◌, ◌≤◌, Some, None, length};
 
 use crate::pairs::{MemConn, Pair};
 use ocm_base::{Failed, Gate, MemSink, MemSource, Sink, Source};
@@ -97,6 +97,8 @@ fn before_hold(buffer: usize, given: usize, hold: usize) -> usize
 
 impl Source for GateSource {
     ghost left = { λ s. Some s.source.left };
+
+    ghost received = { λ _. None };
 
     ghost faults = { λ s. s.faults };
 

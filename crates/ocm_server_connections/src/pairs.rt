@@ -1,6 +1,7 @@
 //! Connections of a source and a sink.
 
 ghost use Rattle.std.specs.Prelude.{◌≡◌, Some, None, [], ◌++◌};
+ghost use Rattle.ocm_base.specs.Outside.{flow};
 ghost use Rattle.ocm_server_connections.specs.Sides.{Sides};
 
 use crate::conns::Conn;
@@ -41,7 +42,7 @@ impl Pair<MemSource, MemSink> {
 
 impl<S: Source, K: Sink> Conn for Pair<S, K> {
     ghost sides = { λ p. record {
-      left = S.left p.source;
+      flow = flow (S.left p.source) (S.received p.source);
       taken = K.taken p.sink;
       noted = None;
       read_faults = S.faults p.source;

@@ -199,12 +199,12 @@ module _ {D : Type 0} (disk : Ghosts D) where
 
 -- what is known of a journal that was loaded from a disk. A new one would have areas of this size.
 pub record IsLoaded {D : Type 0} (disk : Ghosts D) (host : List ℕ) (area : ℕ) (old : D) (journal : Journal D disk) (raw : List RawRecord) : Type 0 where
-  pub reads : disk.tells → opening host area (disk.seen old) ≡ Ok raw
+  pub reads : disk.tells → disk.faithful (journals.disk_of journal) → opening host area (disk.seen old) ≡ Ok raw
   pub holds : disk.tells → StandsFor disk host (contents raw) journal
-  pub made : disk.tells → IsMadeAs host area (disk.seen old) (journals.form_of journal) (journals.area_of journal)
-  pub same : disk.tells → blank_of host area (disk.seen old) ≡ None → disk.seen (journals.disk_of journal) ≡ disk.seen old
-  pub stays : disk.tells → StaysAsItOpens host area (disk.seen old) (disk.seen (journals.disk_of journal))
-  pub moments : disk.tells → LeavesOnly disk.moment disk.left_since old (journals.disk_of journal) (λ c. disk.may_leave old c ⊎ StaysAsItOpens host area (disk.seen old) c)
+  pub made : disk.tells → disk.faithful (journals.disk_of journal) → IsMadeAs host area (disk.seen old) (journals.form_of journal) (journals.area_of journal)
+  pub same : disk.tells → blank_of host area (disk.seen old) ≡ None → disk.faithful (journals.disk_of journal) → disk.seen (journals.disk_of journal) ≡ disk.seen old
+  pub stays : disk.tells → disk.faithful (journals.disk_of journal) → StaysAsItOpens host area (disk.seen old) (disk.seen (journals.disk_of journal))
+  pub moments : disk.tells → disk.faithful (journals.disk_of journal) → LeavesOnly disk.moment disk.left_since old (journals.disk_of journal) (λ c. disk.may_leave old c ⊎ StaysAsItOpens host area (disk.seen old) c)
 
 -- what is known of a store that was made of a journal and its records
 pub record IsReplayed {D : Type 0} (disk : Ghosts D) (host : List ℕ) (journal : Journal D disk) (raw : List RawRecord) (store : Store D disk) : Type 0 where
@@ -234,13 +234,13 @@ module _ {D : Type 0} {disk : Ghosts D} {host : List ℕ} {area : ℕ} {old : D}
           (record { records = contents raw; list = r.list; holds = loaded.holds tells; opens = r.opens; same = refl; spelled = subst IsSpelled r.memory.all_kept r.memory.memory.spelled }))
 
   -- what the disk opened to
-  opens-list : disk.tells → (k : List Entry) → opened host (journals.form_of journal) (contents raw) ≡ Some k → OpensTo host area k (disk.seen old)
-  opens-list tells k opens = by_blank (blank_of host area (disk.seen old)) refl
+  opens-list : disk.tells → disk.faithful (journals.disk_of journal) → (k : List Entry) → opened host (journals.form_of journal) (contents raw) ≡ Some k → OpensTo host area k (disk.seen old)
+  opens-list tells faithful k opens = by_blank (blank_of host area (disk.seen old)) refl
     where
       by_blank : (o : Option Blank) → blank_of host area (disk.seen old) ≡ o → OpensTo host area k (disk.seen old)
-      by_blank None is = inr (journal.area, (journal.form, contents raw, subst (λ b. IsImage host journal.area journal.form (contents raw) b) (loaded.same tells is) (loaded.holds tells).image, opens))
+      by_blank None is = inr (journal.area, (journal.form, contents raw, subst (λ b. IsImage host journal.area journal.form (contents raw) b) (loaded.same tells is faithful) (loaded.holds tells).image, opens))
       by_blank (Some blank) is =
-          let none : raw ≡ [] = blank-raw host area (disk.seen old) raw blank is (loaded.reads tells) in
+          let none : raw ≡ [] = blank-raw host area (disk.seen old) raw blank is (loaded.reads tells faithful) in
           inl (let P : Option Blank → Type 0 = λ o. IsSome o in subst P (sym is) refl, some-list (sym opens ∙ ap (λ rs. opened host (journals.form_of journal) (contents rs)) none))
         where
           some-list : ◌≡◌ {A = Option (List Entry)} (Some k) (Some []) → k ≡ []
@@ -248,18 +248,26 @@ module _ {D : Type 0} {disk : Ghosts D} {host : List ℕ} {area : ℕ} {old : D}
 
   -- it stands for some list, which is what the disk opened to
   pub all-opened : ((d : D) → disk.may_leave d (disk.seen d)) → (result : Result (Store D disk) (D × LoadFault)) → IfOk result (IsReplayed disk host journal raw)
-      → IfOk result (λ store. (k : List Entry) × Stands disk store k [] × IsLegalUnder (terms_of store) k [] × (disk.tells → (loading host area (disk.seen old) ≡ Ok k) × OpensTo host area k (disk.seen old)))
+      → IfOk result (λ store. (k : List Entry) × Stands disk store k [] × IsLegalUnder (terms_of store) k [] × (disk.tells → disk.faithful (disk_of store) → (loading host area (disk.seen old) ≡ Ok k) × OpensTo host area k (disk.seen old)))
   all-opened own (Ok store) r =
-      let s = replayed-stands own store r in
-      (r.list, s.0, s.1, λ tells. (opens-loaded host area r.list (disk.seen old) (opens-list tells r.list r.opens), opens-list tells r.list r.opens))
+      let s = replayed-stands own store r in (
+        r.list,
+        s.0,
+        s.1,
+        λ tells faithful.
+            let here = subst (λ j. disk.faithful (journals.disk_of j)) r.same faithful in
+            let list = opens-list tells here r.list r.opens in
+            (opens-loaded host area r.list (disk.seen old) list, list),
+      )
   all-opened own (Err failed) r = tt
 
   -- the first record that is refused is what the bytes say
-  pub all-said : disk.tells → (result : Result (Store D disk) (D × LoadFault)) → IfErr result (λ failed. IsRefused (refused_at host (journals.form_of journal) raw) failed.1)
-      → IfErr result (λ failed. IsSaidBy (loading host area (disk.seen old)) failed.1)
-  all-said tells (Ok store) refused = tt
-  all-said tells (Err failed) refused =
-      said-refused host area (disk.seen old) (disk.seen (journals.disk_of journal)) journal.area journal.form raw failed.1 (loaded.reads tells) (loaded.holds tells).image (loaded.same tells) refused
+  pub all-said : disk.tells → (result : Result (Store D disk) (D × LoadFault)) → IfErr result (λ failed. failed.0 ≡ journals.disk_of journal)
+      → IfErr result (λ failed. IsRefused (refused_at host (journals.form_of journal) raw) failed.1) → IfErr result (λ failed. disk.faithful failed.0 → IsSaidBy (loading host area (disk.seen old)) failed.1)
+  all-said tells (Ok store) back refused = tt
+  all-said tells (Err failed) back refused = λ faithful.
+      let here = subst disk.faithful back faithful in
+      said-refused host area (disk.seen old) (disk.seen (journals.disk_of journal)) journal.area journal.form raw failed.1 (loaded.reads tells here) (loaded.holds tells).image (λ none. loaded.same tells none here) refused
 
   -- what the journal has, the store has
   pub all-kept : (P : Journal D disk → Type 0) → P journal → (result : Result (Store D disk) (D × LoadFault)) → IfOk result (λ store. store.journal ≡ journal) → IfOk result (λ store. P store.journal)
@@ -272,9 +280,9 @@ module _ {D : Type 0} {disk : Ghosts D} {host : List ℕ} {area : ℕ} {old : D}
   all-back P here (Err failed) same = subst P (sym same) here
 
   -- its areas have the size that the disk says
-  pub of-area : disk.tells → IsOfArea host area (journals.area_of journal) (disk.seen old)
-  of-area tells = by_blank (blank_of host area (disk.seen old)) refl
+  pub of-area : disk.tells → disk.faithful (journals.disk_of journal) → IsOfArea host area (journals.area_of journal) (disk.seen old)
+  of-area tells faithful = by_blank (blank_of host area (disk.seen old)) refl
     where
       by_blank : (o : Option Blank) → blank_of host area (disk.seen old) ≡ o → IsOfArea host area (journals.area_of journal) (disk.seen old)
-      by_blank None is = inr (journal.form, contents raw, subst (λ b. IsImage host journal.area journal.form (contents raw) b) (loaded.same tells is) (loaded.holds tells).image)
-      by_blank (Some blank) is = inl (let P : Option Blank → Type 0 = λ o. IsSome o in subst P (sym is) refl, (loaded.made tells blank is).1)
+      by_blank None is = inr (journal.form, contents raw, subst (λ b. IsImage host journal.area journal.form (contents raw) b) (loaded.same tells is faithful) (loaded.holds tells).image)
+      by_blank (Some blank) is = inl (let P : Option Blank → Type 0 = λ o. IsSome o in subst P (sym is) refl, (loaded.made tells faithful blank is).1)

@@ -38,13 +38,13 @@ impl<D: Disk> Store<D> {
         // It stands for some list, and no call so far. Where the disk tells what it holds, it is loaded exactly where its bytes
         // open to a list, which is that one.
         ensures opened { IfOk result (λ store. (k : List Entry) × Stands ⟦<D as Disk>⟧ store k [] × IsLegalUnder (terms_of store) k []
-            × (D.tells → (loading host (new_area limit) (D.seen disk) ≡ Ok k) × OpensTo host (new_area limit) k (D.seen disk))) }
+            × (D.tells → D.faithful (disk_of store) → (loading host (new_area limit) (D.seen disk) ≡ Ok k) × OpensTo host (new_area limit) k (D.seen disk))) }
 
         // The areas of its journal have the size that they have on the disk, or that of a new journal where the disk is blank.
-        ensures area { D.tells → IfOk result (λ store. IsOfArea host (new_area limit) (area_of store) (D.seen disk)) }
+        ensures area { D.tells → IfOk result (λ store. D.faithful (disk_of store) → IsOfArea host (new_area limit) (area_of store) (D.seen disk)) }
 
         // A fault of the format is what the bytes say, and a fault of the disk comes only where its count rose.
-        ensures says { D.tells → IfErr result (λ failed. IsSaidBy (loading host (new_area limit) (D.seen disk)) failed.1) }
+        ensures says { D.tells → IfErr result (λ failed. D.faithful failed.0 → IsSaidBy (loading host (new_area limit) (D.seen disk)) failed.1) }
         ensures cause { IfErr result (λ failed. IsCounted (D.count disk) (D.count failed.0) failed.1) }
         ensures count { IfOk result (λ store. D.count (disk_of store) ≡ D.count disk) }
 
@@ -53,23 +53,23 @@ impl<D: Disk> Store<D> {
         ensures unfailing { ((n : ℕ) → D.passes disk n) → IfErr result (λ failed. IsNoDiskFault failed.1) }
 
         // Loaded or not, the disk reads as it did or, where it was blank, opens to no records.
-        ensures same_ok { D.tells → IfOk result (λ store. StaysAsItOpens host (new_area limit) (D.seen disk) (D.seen (disk_of store))) }
-        ensures same_err { D.tells → IfErr result (λ failed. StaysAsItOpens host (new_area limit) (D.seen disk) (D.seen failed.0)) }
+        ensures same_ok { D.tells → IfOk result (λ store. D.faithful (disk_of store) → StaysAsItOpens host (new_area limit) (D.seen disk) (D.seen (disk_of store))) }
+        ensures same_err { D.tells → IfErr result (λ failed. D.faithful failed.0 → StaysAsItOpens host (new_area limit) (D.seen disk) (D.seen failed.0)) }
 
         // A crash at any moment leaves what it might have left before the call or, from the first sync on, the same bytes or,
         // where the disk was blank, what opens to no records. So it opens to the same list.
-        ensures moments_ok { D.tells → IfOk result (λ store. LeavesOnly D.moment D.left_since disk (disk_of store)
+        ensures moments_ok { D.tells → IfOk result (λ store. D.faithful (disk_of store) → LeavesOnly D.moment D.left_since disk (disk_of store)
             (λ c. D.may_leave disk c ⊎ StaysAsItOpens host (new_area limit) (D.seen disk) c)) }
-        ensures moments_err { D.tells → IfErr result (λ failed. LeavesOnly D.moment D.left_since disk failed.0
+        ensures moments_err { D.tells → IfErr result (λ failed. D.faithful failed.0 → LeavesOnly D.moment D.left_since disk failed.0
             (λ c. D.may_leave disk c ⊎ StaysAsItOpens host (new_area limit) (D.seen disk) c)) }
 
         // Wherever the calls of its disk end behind the first one, a crash leaves the second of these alone. So it does at
         // each moment from the success of the first sync on, since no call tells how many are left.
-        ensures synced_ok { D.tells → D.passes disk 1 → IfOk result (λ store. (c : List ℕ) → D.may_leave (disk_of store) c → StaysAsItOpens host (new_area limit) (D.seen disk) c) }
-        ensures synced_err { D.tells → D.passes disk 1 → IfErr result (λ failed. (c : List ℕ) → D.may_leave failed.0 c → StaysAsItOpens host (new_area limit) (D.seen disk) c) }
+        ensures synced_ok { D.tells → D.passes disk 1 → IfOk result (λ store. D.faithful (disk_of store) → (c : List ℕ) → D.may_leave (disk_of store) c → StaysAsItOpens host (new_area limit) (D.seen disk) c) }
+        ensures synced_err { D.tells → D.passes disk 1 → IfErr result (λ failed. D.faithful failed.0 → (c : List ℕ) → D.may_leave failed.0 c → StaysAsItOpens host (new_area limit) (D.seen disk) c) }
 
         // Of an image its live area stays the live one, and that of a new journal is the first, without records.
-        ensures begins { D.tells → IfOk result (λ store. (live : LiveArea) → BeginsWith host (new_area limit) (D.seen disk) live → HasLiveArea ⟦<D as Disk>⟧ host live store) }
+        ensures begins { D.tells → IfOk result (λ store. D.faithful (disk_of store) → (live : LiveArea) → BeginsWith host (new_area limit) (D.seen disk) live → HasLiveArea ⟦<D as Disk>⟧ host live store) }
     {
         match Journal::load(alloc, disk, host.text().as_str().as_bytes(), limit) {
             Ok((journal, records)) => Store::replay(alloc, host, journal, &records),

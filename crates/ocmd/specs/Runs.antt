@@ -15,7 +15,7 @@ use Rattle.ocm_commands_files.specs.declared.ends.End.{End}
 use Rattle.ocm_commands_files.specs.declared.words.Command.{Command}
 use Rattle.ocm_commands_network.specs.Remotes.{TellsAnswer, TellsPart}
 use Rattle.ocm_commands_network.specs.Words.{asks_remote}
-use Rattle.ocm_commands.specs.Commands.{Writes, WritesPart}
+use Rattle.ocm_commands.specs.Commands.{Writes, WritesOnCome, WritesPart}
 
 -- the first word asks for a server
 abbrev pub AskServe : List (List ℕ) → Type 0
@@ -76,6 +76,11 @@ AloneEnds words status left old new =
     × ((c : Command) → AreOf c words → status ≡ 9 → IfSome (input_of c left) (IsLong c))
     × ((c : Command) → AreOf c words → (status ≡ 4) ⊎ (status ≡ 5) → IfSome (input_of c left) (λ bytes. WritesPart c bytes old new))
     × ((status ≡ 3) ⊎ (status ≡ 9) → new ≡ old)
+
+-- The same of a source that tells what it gave: the bytes that came, and what the command writes on them.
+abbrev pub AloneCame : List (List ℕ) → ℕ → Option (List ℕ) → Option (List ℕ) → Option (List ℕ) → Option (List ℕ) → Type 0
+AloneCame words status before after old new =
+    (shelf : List ShelfPlace) × ((c : Command) → AreOf c words → IsWhole status → WritesOnCome c status before after old new shelf)
 
 -- What a command that runs alone leaves of the source: the whole where the words are no command's or the command's input is
 -- none, and nothing after a whole run of one that reads.

@@ -9,7 +9,7 @@ ghost use Rattle.ocm_commands_dav.specs.Exchanges.{AsksPut};
 ghost use Rattle.ocm_commands_dav.specs.declared.ends.End.{End};
 ghost use Rattle.ocm_commands_dav.specs.declared.ends.End.TheVariants as asked;
 ghost use Rattle.ocm_commands_files.specs.Commands.{usage_line};
-ghost use Rattle.ocmd.specs.Runs.{AloneEnds, AloneReads, AskAlone, AskRemote, AskServe, RemoteEnds, ServeEnds};
+ghost use Rattle.ocmd.specs.Runs.{AloneCame, AloneEnds, AloneReads, AskAlone, AskRemote, AskServe, RemoteEnds, ServeEnds};
 
 use ocm_base::{Sink, Source, StdSink, StdSource};
 use ocm_commands::command;
@@ -77,6 +77,7 @@ fn run<
 
     // the other commands, and other words
     ensures alone { AskAlone (texts words.now) → AloneEnds (texts words.now) result (S.left source.old) (K.taken sink.old) (K.taken sink.new) }
+    ensures alone_came { AskAlone (texts words.now) → AloneCame (texts words.now) result (S.received source.old) (S.received source.new) (K.taken sink.old) (K.taken sink.new) }
     ensures alone_reads { AskAlone (texts words.now) → AloneReads S.left (texts words.now) result source.old source.new }
     ensures alone_read_fault { AskAlone (texts words.now) → result ≡ 3 → Rose (S.faults source.old) (S.faults source.new) }
     ensures alone_write_fault { AskAlone (texts words.now) → result ≡ 4 → Rose (K.faults sink.old) (K.faults sink.new) }

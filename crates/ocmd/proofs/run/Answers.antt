@@ -19,6 +19,9 @@ returns-clause-alone g c alone =
       ]),
     )
 
+pub returns-clause-alone_came : goal.returns-clause-alone_came
+returns-clause-alone_came g c alone = (_, c.command.ensures.came)
+
 pub returns-then-asks_serve-clause-serve : goal.returns-then-asks_serve-clause-serve
 returns-then-asks_serve-clause-serve g c serves =
     let e = c.run_server.ensures in (

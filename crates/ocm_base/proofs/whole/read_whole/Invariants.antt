@@ -1,5 +1,5 @@
 use Rattle.std.proofs.Common.{◌-◌, ◌+◌, ◌≤◌, length}
-use Rattle.ocm_base.specs.Outside.{Takes}
+use Rattle.ocm_base.specs.Outside.{Appends, Takes}
 use Rattle.ocm_base.proofs.whole.read_whole.Given as goal
 
 -- what was read so far
@@ -9,6 +9,7 @@ invariant-loop-n g l =
     record {
       within : length l.bytes ≤ l.limit;
       so_far : Takes (source.left l.fn.source) (source.left l.source) l.bytes;
+      received : Appends (source.received l.fn.source) (source.received l.source) l.bytes;
       never_falls : source.faults l.fn.source ≤ source.faults l.source;
     }
 

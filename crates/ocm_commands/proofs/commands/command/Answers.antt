@@ -4,7 +4,7 @@ use Rattle.ocm_serve_options.specs.Plans.{texts}
 use Rattle.ocm_commands_files.specs.declared.ends.Fault.TheVariants as faults
 use Rattle.ocm_commands_files.specs.Words.{input_of}
 use Rattle.ocm_commands.specs.Commands.{LeavesPart, WritesPart}
-use Rattle.ocm_commands.proofs.Parts.{IsStatus-usage, not-other, run-early, run-whole}
+use Rattle.ocm_commands.proofs.Parts.{IsStatus-usage, not-other, run-came, run-early, run-whole}
 use Rattle.ocm_commands.proofs.Shelved.{left-input, unshelved-status}
 use Rattle.ocm_commands.proofs.commands.command.Goals as goal
 
@@ -23,6 +23,10 @@ returns-in-Ok-Some-clause-untested g c = λ other. absurd (not-other (texts c.ar
 pub returns-in-Ok-Some-clause-whole : goal.returns-in-Ok-Some-clause-whole
 returns-in-Ok-Some-clause-whole g c =
     λ d are done. run-whole (texts c.args.words.now) c.in-Ok-Some.command d c.run.result c.status_of.result (g.S.Source.left c.args.source.now) (g.K.Sink.taken c.args.sink.now) (g.K.Sink.taken c.run.new.sink) c.run.new.shelf (rw c.in-Ok-Some.field-0-is at c.in-Ok-Some.ensures.read) are c.status_of.ensures done c.run.ensures.whole
+
+pub returns-in-Ok-Some-clause-came : goal.returns-in-Ok-Some-clause-came
+returns-in-Ok-Some-clause-came g c =
+    λ d are done. run-came (texts c.args.words.now) c.in-Ok-Some.command d c.run.result c.status_of.result (g.S.Source.received c.args.source.now) (g.S.Source.received c.run.new.source) (g.K.Sink.taken c.args.sink.now) (g.K.Sink.taken c.run.new.sink) c.run.new.shelf (rw c.in-Ok-Some.field-0-is at c.in-Ok-Some.ensures.read) are c.status_of.ensures done c.run.ensures.came
 
 pub returns-in-Ok-Some-clause-part : goal.returns-in-Ok-Some-clause-part
 returns-in-Ok-Some-clause-part g c =

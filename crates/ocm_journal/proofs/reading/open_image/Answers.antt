@@ -1,9 +1,10 @@
-use Rattle.std.proofs.Common.{rules, ◌≡◌, ℕ, min, List, length, sym, ◌∙◌, arith}
+use Rattle.std.proofs.Common.{rules, ◌≡◌, ◌≤◌, ℕ, min, List, length, sym, ◌∙◌, arith}
 use Rattle.std.proofs.lemmas.Result.{err_from_is_err_and}
 use Rattle.ocm_texts.specs.Hex.{AreBytes}
 use Rattle.ocm_journal_image.specs.Reading.{live_bytes}
+use Rattle.ocm_journal_image.proofs.ReadBack.{header_long}
 use Rattle.ocm_journal.specs.Passing.{FailsWithDisk}
-use Rattle.ocm_journal.proofs.OpenedImage.{if_ok, if_ok_both, if_err, front_header, said_header, other_label, label_same, below_is, area_wanting, live_read, reads_area, says_area, image_opens}
+use Rattle.ocm_journal.proofs.OpenedImage.{if_ok, if_ok_both, if_err, front_header, front_stays, front_tells, starts_low, said_header, other_label, label_same, below_is, area_wanting, live_read, reads_area, says_area, image_opens}
 use Rattle.ocm_journal.proofs.Passing.{always, image_fault, said_fault}
 use Rattle.ocm_journal.proofs.reading.open_image.Goals as goal
 
@@ -39,12 +40,16 @@ returns-then-start-len-clause-says g c = λ tells is.
 
 pub returns-clause-reads : goal.returns-clause-reads
 returns-clause-reads g c = λ tells is.
-    let seen : List ℕ = g.D.Disk.seen c.args.disk.now in
-    let size : c.len-len.result ≡ length seen = c.len-len.ensures ∙ sym (g.met.D.Disk.sizes c.args.disk.now tells) in
+    let old : List ℕ = g.D.Disk.seen c.args.disk.now in
+    let seen : List ℕ = g.D.Disk.seen c.read_part.new.disk in
+    let size : c.len-len.result ≡ length seen = c.len-len.ensures ∙ sym c.in_ok-bytes.ensures.size ∙ sym (g.met.D.Disk.sizes c.read_part.new.disk tells) in
     let front_are : AreBytes c.args.front.now = search rules in
-    let few : length c.args.front.now ≡ min c.len-len.result 514 = omega (arith, c.requires.front, c.len-len.ensures) in
-    let same = front_header seen c.args.front.now c.len-len.result size few is front_are in
     let h = c.in_ok-header.header in
+    let long = header_long c.len-len.result c.args.front.now h c.in_ok-header.ensures.reads in
+    let front_long : 512 ≤ length c.args.front.now = omega (arith, c.requires.front, c.len-len.ensures, long) in
+    let low : 512 ≤ c.start-start.result = omega (arith, starts_low h, c.start-start.ensures) in
+    let stays = front_stays old seen c.args.front.now c.start-start.result c.min.result low (c.in_ok-bytes.ensures.elsewhere tells) front_long is in
+    let same = front_tells seen c.args.front.now c.len-len.result size front_long stays front_are in
     let found = label_same c.args.label.now c.as_slice.result.now h c.as_slice.ensures c.if-ne.ensures in
     let below = below_is c.args.label.now seen h _ _ same c.in_ok-header.ensures.reads found in
     let shown : c.deref.result.now ≡ live_bytes h seen = live_read h seen c.deref.result.now c.in_ok-bytes.bytes.items c.len-len.result c.start-start.result c.min.result size c.start-start.ensures c.min.ensures (c.in_ok-bytes.ensures.bytes tells) c.deref.ensures.value in
@@ -52,12 +57,16 @@ returns-clause-reads g c = λ tells is.
 
 pub returns-clause-says : goal.returns-clause-says
 returns-clause-says g c = λ tells is.
-    let seen : List ℕ = g.D.Disk.seen c.args.disk.now in
-    let size : c.len-len.result ≡ length seen = c.len-len.ensures ∙ sym (g.met.D.Disk.sizes c.args.disk.now tells) in
+    let old : List ℕ = g.D.Disk.seen c.args.disk.now in
+    let seen : List ℕ = g.D.Disk.seen c.read_part.new.disk in
+    let size : c.len-len.result ≡ length seen = c.len-len.ensures ∙ sym c.in_ok-bytes.ensures.size ∙ sym (g.met.D.Disk.sizes c.read_part.new.disk tells) in
     let front_are : AreBytes c.args.front.now = search rules in
-    let few : length c.args.front.now ≡ min c.len-len.result 514 = omega (arith, c.requires.front, c.len-len.ensures) in
-    let same = front_header seen c.args.front.now c.len-len.result size few is front_are in
     let h = c.in_ok-header.header in
+    let long = header_long c.len-len.result c.args.front.now h c.in_ok-header.ensures.reads in
+    let front_long : 512 ≤ length c.args.front.now = omega (arith, c.requires.front, c.len-len.ensures, long) in
+    let low : 512 ≤ c.start-start.result = omega (arith, starts_low h, c.start-start.ensures) in
+    let stays = front_stays old seen c.args.front.now c.start-start.result c.min.result low (c.in_ok-bytes.ensures.elsewhere tells) front_long is in
+    let same = front_tells seen c.args.front.now c.len-len.result size front_long stays front_are in
     let found = label_same c.args.label.now c.as_slice.result.now h c.as_slice.ensures c.if-ne.ensures in
     let below = below_is c.args.label.now seen h _ _ same c.in_ok-header.ensures.reads found in
     let shown : c.deref.result.now ≡ live_bytes h seen = live_read h seen c.deref.result.now c.in_ok-bytes.bytes.items c.len-len.result c.start-start.result c.min.result size c.start-start.ensures c.min.ensures (c.in_ok-bytes.ensures.bytes tells) c.deref.ensures.value in
@@ -65,15 +74,19 @@ returns-clause-says g c = λ tells is.
 
 pub returns-clause-opens : goal.returns-clause-opens
 returns-clause-opens g c = λ tells is.
-    let seen : List ℕ = g.D.Disk.seen c.args.disk.now in
-    let size : c.len-len.result ≡ length seen = c.len-len.ensures ∙ sym (g.met.D.Disk.sizes c.args.disk.now tells) in
+    let old : List ℕ = g.D.Disk.seen c.args.disk.now in
+    let seen : List ℕ = g.D.Disk.seen c.read_part.new.disk in
+    let size : c.len-len.result ≡ length seen = c.len-len.ensures ∙ sym c.in_ok-bytes.ensures.size ∙ sym (g.met.D.Disk.sizes c.read_part.new.disk tells) in
     let front_are : AreBytes c.args.front.now = search rules in
-    let few : length c.args.front.now ≡ min c.len-len.result 514 = omega (arith, c.requires.front, c.len-len.ensures) in
     let h = c.in_ok-header.header in
+    let long = header_long c.len-len.result c.args.front.now h c.in_ok-header.ensures.reads in
+    let front_long : 512 ≤ length c.args.front.now = omega (arith, c.requires.front, c.len-len.ensures, long) in
+    let low : 512 ≤ c.start-start.result = omega (arith, starts_low h, c.start-start.ensures) in
+    let stays = front_stays old seen c.args.front.now c.start-start.result c.min.result low (c.in_ok-bytes.ensures.elsewhere tells) front_long is in
     let found = label_same c.args.label.now c.as_slice.result.now h c.as_slice.ensures c.if-ne.ensures in
     let shown : c.deref.result.now ≡ live_bytes h seen = live_read h seen c.deref.result.now c.in_ok-bytes.bytes.items c.len-len.result c.start-start.result c.min.result size c.start-start.ensures c.min.ensures (c.in_ok-bytes.ensures.bytes tells) c.deref.ensures.value in
     let all = if_ok_both c.open_area.result _ _ (if_ok_both c.open_area.result _ _ c.open_area.ensures.reads c.open_area.ensures.header) c.open_area.ensures.bytes in
-    if_ok c.open_area.result _ _ all (λ o f. image_opens c.args.label.now seen c.args.front.now c.deref.result.now h c.len-len.result o size few is front_are c.in_ok-header.ensures.reads found shown f.1 f.0.0 f.0.1.0 f.0.1.1 f.0.1.2)
+    if_ok c.open_area.result _ _ all (λ o f. image_opens c.args.label.now seen c.args.front.now c.deref.result.now h c.len-len.result o size front_long stays front_are c.in_ok-header.ensures.reads found shown f.1 f.0.0 f.0.1.0 f.0.1.1 f.0.1.2)
 
 pub returns-in_err-header-clause-unfailing : goal.returns-in_err-header-clause-unfailing
 unfolding FailsWithDisk

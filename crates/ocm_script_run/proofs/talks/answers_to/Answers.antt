@@ -1,5 +1,6 @@
-use Rattle.std.proofs.Common.{◌≡◌, ◌++◌, ◌+◌, ℕ, List, Bool, true, false, Option, Some, refl, sym, ap, ◌∙◌, subst, arith}
+use Rattle.std.proofs.Common.{◌≡◌, ◌++◌, ◌+◌, ℕ, List, Bool, true, false, Option, None, Some, refl, sym, ap, ◌∙◌, subst, arith}
 use Rattle.std.specs.Prelude.{codes, IfSome}
+use Rattle.ocm_base.specs.Outside.{flow}
 use Rattle.ocm_types.specs.Draws.{fresh_plus}
 use Rattle.ocm_http.specs.Frames.{Given}
 use Rattle.ocm_http.specs.Readers.{ReadsMessage, ReaderState}
@@ -57,14 +58,14 @@ returns-in-Err g c = if_ok c.with_refusal.result
 pub answer_of-requires-clause-request : goal.answer_of-requires-clause-request
 answer_of-requires-clause-request g c =
     let loop = c.loop-number in
-    let reads = subst (λ (o : Option Message). IfSome o (λ m. ReadsMessage loop.reader (Some loop.source.left) (Some c.next.new.source.left) (Given m c.next.new.self.held) c.next.new.self.held c.next.new.self.place)) c.in-Ok-Some.field-0-is c.in-Ok-Some.ensures.message in
+    let reads = subst (λ (o : Option Message). IfSome o (λ m. ReadsMessage loop.reader (flow (Some loop.source.left) None) (flow (Some c.next.new.source.left) None) (Given m c.next.new.self.held) c.next.new.self.held c.next.new.self.place)) c.in-Ok-Some.field-0-is c.in-Ok-Some.ensures.message in
     let here = comes loop.reader c.next.new.self loop.source.left c.next.new.source.left c.in-Ok-Some.message loop.invariant.reads reads in
     message_request 1048576 loop.reader.place (loop.reader.held ++ loop.source.left) (c.next.new.self.held ++ c.next.new.source.left) true c.in-Ok-Some.message here.is
 
 pub returns-then-is_end : goal.returns-then-is_end
 returns-then-is_end g c = λ server is.
     let loop = c.loop-number in
-    let reads = subst (λ (o : Option Message). IfSome o (λ m. ReadsMessage loop.reader (Some loop.source.left) (Some c.next.new.source.left) (Given m c.next.new.self.held) c.next.new.self.held c.next.new.self.place)) c.in-Ok-Some.field-0-is c.in-Ok-Some.ensures.message in
+    let reads = subst (λ (o : Option Message). IfSome o (λ m. ReadsMessage loop.reader (flow (Some loop.source.left) None) (flow (Some c.next.new.source.left) None) (Given m c.next.new.self.held) c.next.new.self.held c.next.new.self.place)) c.in-Ok-Some.field-0-is c.in-Ok-Some.ensures.message in
     let here = comes loop.reader c.next.new.self loop.source.left c.next.new.source.left c.in-Ok-Some.message loop.invariant.reads reads in
     let said = loop.invariant.said server is in
     let answered = c.in_ok-more.ensures said.0 said.1 in
@@ -80,7 +81,7 @@ returns-then-is_end g c = λ server is.
 pub loop-number-preserved : goal.loop-number-preserved
 loop-number-preserved g c =
     let loop = c.loop-number in
-    let reads = subst (λ (o : Option Message). IfSome o (λ m. ReadsMessage loop.reader (Some loop.source.left) (Some c.next.new.source.left) (Given m c.next.new.self.held) c.next.new.self.held c.next.new.self.place)) c.in-Ok-Some.field-0-is c.in-Ok-Some.ensures.message in
+    let reads = subst (λ (o : Option Message). IfSome o (λ m. ReadsMessage loop.reader (flow (Some loop.source.left) None) (flow (Some c.next.new.source.left) None) (Given m c.next.new.self.held) c.next.new.self.held c.next.new.self.place)) c.in-Ok-Some.field-0-is c.in-Ok-Some.ensures.message in
     let here = comes loop.reader c.next.new.self loop.source.left c.next.new.source.left c.in-Ok-Some.message loop.invariant.reads reads in
     let some = c.in_ok-more.ensures loop.invariant.some.0 loop.invariant.some.1 in
     record {

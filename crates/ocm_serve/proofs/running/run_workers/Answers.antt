@@ -1,11 +1,11 @@
-use Rattle.ocm_serve.proofs.Items.{of_items}
+use Rattle.ocm_serve.proofs.Known.{serves-to}
 use Rattle.ocm_serve.proofs.running.run_workers.Goals as goal
 
 pub returns-clause-runs : goal.returns-clause-runs
 returns-clause-runs g c = (
   c.serve-served.result.0,
   c.tell_end.ensures.exact,
-  of_items g.D.Disk c.args.plan.now _ _ _ _ c.args.disk c.deref_mut.result.now c.args.workers.items c.serve-served.result.0 c.deref_mut.ensures.value (record {
+  serves-to g.D.Disk g.L.Conn.Conn.sides c.args.draw_key _ c.args.plan.now c.args.disk c.deref_mut.result.now c.args.workers.items c.serve-served.result.0 c.deref_mut.ensures.value (record {
     after = c.serve-served.result.1;
     left = c.serve-served.new.workers;
     ran = c.serve-served.ensures.served;
@@ -17,5 +17,5 @@ returns-clause-runs g c = (
     unasked = c.serve-served.ensures.unasked;
     unserved = c.serve-served.ensures.unserved;
     kept = c.serve-served.ensures.kept;
-  }),
+  }) c.serve-served.auto.workers,
 )

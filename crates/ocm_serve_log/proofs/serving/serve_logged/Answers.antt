@@ -15,7 +15,7 @@ use Rattle.ocm_serve_log.proofs.serving.serve_logged.Goals as goal
 
 pub serve_logged_store-requires-clause-store : goal.serve_logged_store-requires-clause-store
 serve_logged_store-requires-clause-store g c κs within = let o = c.in-Ok-load.ensures.opened in let names = c.in-Ok.ensures in
-    (o.0, opened_same g.D.Disk 536870656 c.in-Ok.host c.in-Ok.config.host c.args.disk c.of-before.result.value o.0 (names.1 ∙ sym (ap (λ (k : Config). k.host) names.0)) (sym c.of-before.ensures) o.3, o.1, o.2)
+    (o.0, opened_same g.D.Disk 536870656 c.in-Ok.host c.in-Ok.config.host c.args.disk c.of-before.result.value (disk_of c.in-Ok-load.store) o.0 (names.1 ∙ sym (ap (λ (k : Config). k.host) names.0)) (sym c.of-before.ensures) o.3, o.1, o.2)
 
 pub returns-in-Ok-load-clause-served : goal.returns-in-Ok-load-clause-served
 returns-in-Ok-load-clause-served g c = λ calls own has.
@@ -23,13 +23,13 @@ returns-in-Ok-load-clause-served g c = λ calls own has.
     let d = g.D.Disk in
     let laws = g.met.D.Disk g.world.𝓛 g.world.𝓜 g.world.𝓡 ((λ s x. x), (λ x. x), (λ x. x), λ x. x) in
     logged_ran d laws.only_now c.args.plan.now 536870656 _ _ c.args.disk _ calls own _ c.in-Ok.config c.in-Ok-load.store _ _ _ _ names.0 (c.in-Ok-load.ensures.host ∙ names.1)
-    (λ tells. subst (λ (h : List ℕ). IsOfArea h 536870656 (area_of c.in-Ok-load.store) (d.seen c.args.disk)) names.1 (c.in-Ok-load.ensures.area tells))
-    (λ tells. subst (λ (h : List ℕ). LeavesOnly d.moment d.left_since c.args.disk (disk_of c.in-Ok-load.store) (λ x. d.may_leave c.args.disk x ⊎ StaysAsItOpens h 536870656 (d.seen c.args.disk) x)) names.1 (c.in-Ok-load.ensures.moments_ok tells))
-    (λ (k : List Entry) opens. opened_same d 536870656 c.in-Ok.config.host c.args.plan.now.host c.of-before.result.value c.args.disk k (ap (λ (n : Config). n.host) names.0) c.of-before.ensures opens)
+    (λ tells faithful. subst (λ (h : List ℕ). IsOfArea h 536870656 (area_of c.in-Ok-load.store) (d.seen c.args.disk)) names.1 (c.in-Ok-load.ensures.area tells faithful))
+    (λ tells faithful. subst (λ (h : List ℕ). LeavesOnly d.moment d.left_since c.args.disk (disk_of c.in-Ok-load.store) (λ x. d.may_leave c.args.disk x ⊎ StaysAsItOpens h 536870656 (d.seen c.args.disk) x)) names.1 (c.in-Ok-load.ensures.moments_ok tells faithful))
+    (λ (k : List Entry) opens. opened_same d 536870656 c.in-Ok.config.host c.args.plan.now.host c.of-before.result.value c.args.disk (disk_of c.in-Ok-load.store) k (ap (λ (n : Config). n.host) names.0) c.of-before.ensures opens)
     (c.serve_logged_store.ensures.served calls own has)
 
 pub returns-in-Ok-load-clause-said : goal.returns-in-Ok-load-clause-said
-returns-in-Ok-load-clause-said g c = λ tells. loaded-said _ c.serve_logged_store.result.served c.serve_logged_store.ensures.loaded
+returns-in-Ok-load-clause-said g c = λ tells faithful. loaded-said _ c.serve_logged_store.result.served c.serve_logged_store.ensures.loaded
 
 pub returns-in-Ok-load-clause-counted : goal.returns-in-Ok-load-clause-counted
 returns-in-Ok-load-clause-counted g c = loaded-counted _ _ c.serve_logged_store.result.served c.serve_logged_store.ensures.loaded
@@ -41,18 +41,18 @@ pub returns-clause-served : goal.returns-clause-served
 returns-clause-served g c = λ calls own has. absurd (unserved c.in-Err.fault calls own (subst (λ (r : Served). HasServed r calls own) c.refused.ensures has))
 
 pub returns-in-Ok-load-clause-kept : goal.returns-in-Ok-load-clause-kept
-returns-in-Ok-load-clause-kept g c = λ tells unserved. let names = c.in-Ok.ensures in
+returns-in-Ok-load-clause-kept g c = λ tells faithful unserved. let names = c.in-Ok.ensures in
     subst (λ (h : List ℕ). StaysAsItOpens h 536870656 (g.D.Disk.seen c.args.disk) (g.D.Disk.seen c.serve_logged_store.result.disk)) names.1
-    (subst (λ (seen : List ℕ). StaysAsItOpens c.in-Ok.host 536870656 (g.D.Disk.seen c.args.disk) seen) (sym (ap g.D.Disk.seen (c.serve_logged_store.ensures.kept unserved))) (c.in-Ok-load.ensures.same_ok tells))
+    (subst (λ (seen : List ℕ). StaysAsItOpens c.in-Ok.host 536870656 (g.D.Disk.seen c.args.disk) seen) (sym (ap g.D.Disk.seen (c.serve_logged_store.ensures.kept unserved))) (c.in-Ok-load.ensures.same_ok tells (subst g.D.Disk.faithful (c.serve_logged_store.ensures.kept unserved) faithful)))
 
 pub returns-clause-kept : goal.returns-clause-kept
-returns-clause-kept g c = λ tells unserved. let names = c.in-Ok.ensures in
-    subst (λ (h : List ℕ). StaysAsItOpens h 536870656 (g.D.Disk.seen c.args.disk) (g.D.Disk.seen c.in-Err.disk)) names.1 (c.in-Err.ensures.same_err tells)
+returns-clause-kept g c = λ tells faithful unserved. let names = c.in-Ok.ensures in
+    subst (λ (h : List ℕ). StaysAsItOpens h 536870656 (g.D.Disk.seen c.args.disk) (g.D.Disk.seen c.in-Err.disk)) names.1 (c.in-Err.ensures.same_err tells faithful)
 
 pub returns-clause-said : goal.returns-clause-said
-returns-clause-said g c = λ tells. let says : (host : List ℕ) → _ = λ host. loading host 536870656 (g.D.Disk.seen c.args.disk) in
+returns-clause-said g c = λ tells faithful. let says : (host : List ℕ) → _ = λ host. loading host 536870656 (g.D.Disk.seen c.args.disk) in
     subst (λ (r : Served). IsSaid (says c.args.plan.now.host) r) (sym c.refused.ensures)
-    (refused-said _ c.in-Err.fault (subst (λ (h : List ℕ). stores.IsSaidBy (says h) c.in-Err.fault) c.in-Ok.ensures.1 (c.in-Err.ensures.says tells)))
+    (refused-said _ c.in-Err.fault (subst (λ (h : List ℕ). stores.IsSaidBy (says h) c.in-Err.fault) c.in-Ok.ensures.1 (c.in-Err.ensures.says tells faithful)))
 
 pub returns-clause-counted : goal.returns-clause-counted
 returns-clause-counted g c =
@@ -62,19 +62,19 @@ pub returns-clause-unfailing : goal.returns-clause-unfailing
 returns-clause-unfailing g c = λ passes is. sound-told c.in-Err.fault (c.in-Err.ensures.unfailing passes) (subst (λ (r : Served). IsDiskFault r) c.refused.ensures is)
 
 pub returns-in-Ok-load-clause-unserved : goal.returns-in-Ok-load-clause-unserved
-returns-in-Ok-load-clause-unserved g c = λ tells unserved.
+returns-in-Ok-load-clause-unserved g c = λ tells faithful unserved.
     let names = c.in-Ok.ensures in
     let d = g.D.Disk in
     subst (λ (h : List ℕ). LeavesOnly d.moment d.left_since c.args.disk c.serve_logged_store.result.disk (λ x. d.may_leave c.args.disk x ⊎ StaysAsItOpens h 536870656 (d.seen c.args.disk) x)) names.1
-    (subst (λ back. LeavesOnly d.moment d.left_since c.args.disk back (λ x. d.may_leave c.args.disk x ⊎ StaysAsItOpens c.in-Ok.host 536870656 (d.seen c.args.disk) x)) (sym (c.serve_logged_store.ensures.kept unserved)) (c.in-Ok-load.ensures.moments_ok tells))
+    (subst (λ back. LeavesOnly d.moment d.left_since c.args.disk back (λ x. d.may_leave c.args.disk x ⊎ StaysAsItOpens c.in-Ok.host 536870656 (d.seen c.args.disk) x)) (sym (c.serve_logged_store.ensures.kept unserved)) (c.in-Ok-load.ensures.moments_ok tells (subst g.D.Disk.faithful (c.serve_logged_store.ensures.kept unserved) faithful)))
 
 pub returns-clause-unserved : goal.returns-clause-unserved
-returns-clause-unserved g c = λ tells unserved.
+returns-clause-unserved g c = λ tells faithful unserved.
     let d = g.D.Disk in
-    subst (λ (h : List ℕ). LeavesOnly d.moment d.left_since c.args.disk c.in-Err.disk (λ x. d.may_leave c.args.disk x ⊎ StaysAsItOpens h 536870656 (d.seen c.args.disk) x)) c.in-Ok.ensures.1 (c.in-Err.ensures.moments_err tells)
+    subst (λ (h : List ℕ). LeavesOnly d.moment d.left_since c.args.disk c.in-Err.disk (λ x. d.may_leave c.args.disk x ⊎ StaysAsItOpens h 536870656 (d.seen c.args.disk) x)) c.in-Ok.ensures.1 (c.in-Err.ensures.moments_err tells faithful)
 
 pub returns-in_default-clause-unserved : goal.returns-in_default-clause-unserved
-returns-in_default-clause-unserved g c = λ tells unserved.
+returns-in_default-clause-unserved g c = λ tells faithful unserved.
     let d = g.D.Disk in
     let laws = g.met.D.Disk g.world.𝓛 g.world.𝓜 g.world.𝓡 ((λ s x. x), (λ x. x), (λ x. x), λ x. x) in
     started d.moment d.left_since c.args.disk (λ x. d.may_leave c.args.disk x ⊎ StaysAsItOpens c.args.plan.now.host 536870656 (d.seen c.args.disk) x) (λ x left. inl (laws.only_now c.args.disk x left))

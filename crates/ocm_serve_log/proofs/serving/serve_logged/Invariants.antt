@@ -1,7 +1,8 @@
 use Rattle.ocm_journal.specs.Openings.{new_area}
 use Rattle.ocm_serve_store.specs.Runs.{IsOpenedTo}
+use Rattle.ocm_store.specs.Stores.{disk_of}
 use Rattle.ocm_serve_log.proofs.serving.serve_logged.Given as goal
 
 -- the base is what the disk opened to
 abbrev pub ghosts-serve_logged_store : goal.ghosts-serve_logged_store
-ghosts-serve_logged_store g a = record { known = IsOpenedTo g.D.Disk a.config.now.host (new_area 1073741824) a.before.now.value }
+ghosts-serve_logged_store g a = record { known = IsOpenedTo g.D.Disk a.config.now.host (new_area 1073741824) a.before.now.value (disk_of a.store) }

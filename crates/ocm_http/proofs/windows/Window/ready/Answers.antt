@@ -1,5 +1,6 @@
 use Rattle.std.proofs.Common.{rules, tests, ◌≡◌, [], length, inl, sym, ap, ◌++◌}
 use Rattle.std.proofs.lemmas.List.{nil_from_length}
+use Rattle.ocm_http.proofs.UnderWay.{came_same}
 use Rattle.ocm_http.proofs.windows.Window.ready.Goals as goal
 
 pub returns-clause-taken : goal.returns-clause-taken
