@@ -259,26 +259,28 @@ is 'and changes are made again' 204 "$(put "$key" "http://$address/dav/f" yes)"
 end TERM "$pid"
 
 head_line 'what is refused at the start'
-is 'a second server on the same file' $'12\nocmd: another server has the disk\'s file' "$(ends second --host "$a" --disk a.journal --admin k --listen 127.0.0.1:0)"
-is 'an address that is taken' $'12\nocmd: the address cannot be listened at: it is in use' "$(ends taken --host "$a" --disk c.journal --admin k --listen "$a")"
+is 'a second server on the same file' $'12\nocmd: another server has the disk\'s file a.journal' "$(ends second --host "$a" --disk a.journal --admin k --listen 127.0.0.1:0)"
+is 'an address that is taken' $'12\nocmd: the address '"$a"' cannot be listened at: it is in use' "$(ends taken --host "$a" --disk c.journal --admin k --listen "$a")"
 is 'which makes no file' '' "$(ls c.journal 2>/dev/null)"
-is 'a folder that is not there' $'12\nocmd: the disk\'s file cannot be opened: there is no such file or folder' "$(ends nowhere --host "$a" --disk no/c.journal --admin k --listen 127.0.0.1:0)"
-is 'no file of the administrator' $'12\nocmd: the administrator\'s key file cannot be read: there is no such file or folder' "$(ends noadmin --host "$a" --disk c.journal --admin-file nothing --listen 127.0.0.1:0)"
+is 'a folder that is not there' $'12\nocmd: the disk\'s file no/c.journal cannot be opened: there is no such file or folder' "$(ends nowhere --host "$a" --disk no/c.journal --admin k --listen 127.0.0.1:0)"
+is 'no file of the administrator' $'12\nocmd: the administrator\'s key file nothing cannot be read: there is no such file or folder' "$(ends noadmin --host "$a" --disk c.journal --admin-file nothing --listen 127.0.0.1:0)"
 printf 'k:k\n' > bad.key
-is 'a file without a key' $'12\nocmd: the administrator\'s key file holds no key: 1 to 255 bytes without a control character or \':\', and at most one line end' "$(ends badadmin --host "$a" --disk c.journal --admin-file bad.key --listen 127.0.0.1:0)"
-is 'no key file' $'12\nocmd: the key file cannot be read: there is no such file or folder' "$(ends nokey --host "$a" --disk c.journal --admin k --listen 127.0.0.1:0 --key-file nothing)"
+is 'a file without a key' $'12\nocmd: the administrator\'s key file bad.key holds no key: 1 to 255 bytes without a control character or \':\', and at most one line end' "$(ends badadmin --host "$a" --disk c.journal --admin-file bad.key --listen 127.0.0.1:0)"
+is 'no key file' $'12\nocmd: the key file nothing cannot be read: there is no such file or folder' "$(ends nokey --host "$a" --disk c.journal --admin k --listen 127.0.0.1:0 --key-file nothing)"
 printf hello >wrong.journal
-is 'a file that is no journal' $'7\nocmd: the disk is not a journal at 0' "$(ends wrong --host "$a" --disk wrong.journal --admin k --listen 127.0.0.1:0)"
+is 'a file that is no journal' $'7\nocmd: the disk wrong.journal is not a journal at 0' "$(ends wrong --host "$a" --disk wrong.journal --admin k --listen 127.0.0.1:0)"
 is 'which stays as it is' hello "$(cat wrong.journal)"
-is 'the journal of another host' $'10\nocmd: the disk is the journal of another host, probe.example' "$(ends other --host other.example --disk probe_a --admin k --listen 127.0.0.1:0)"
-usage=$("$program" serve)
+is 'the journal of another host' $'10\nocmd: the disk probe_a is the journal of another host, probe.example' "$(ends other --host other.example --disk probe_a --admin k --listen 127.0.0.1:0)"
+usage=$("$program" serve 2>/dev/null)
+# A line of standard error tells what is wrong, and gives an example.
+usage+=$'\nocmd: serve '
 has 'no words' '^usage: ocmd replay\|' "$usage"
-is 'both options for the key' $'1\n'"$usage" "$(ends words --host a.example --disk j --admin k --admin-file f)"
-is 'none of them' $'1\n'"$usage" "$(ends words --host a.example --disk j)"
-is 'no disk' $'1\n'"$usage" "$(ends words --host a.example --admin k)"
-is 'no workers' $'1\n'"$usage" "$(ends words --host a.example --disk j --admin k --workers 0)"
-is '65 workers' $'1\n'"$usage" "$(ends words --host a.example --disk j --admin k --workers 65)"
-is 'a host that is none' $'1\n'"$usage" "$(ends words --host a_b --disk j --admin k)"
+is 'both options for the key' $'1\n'"$usage--admin-file: --admin is there as well, and only one of the two may be. Example: --admin-file /etc/ocmd/admin.key" "$(ends words --host a.example --disk j --admin k --admin-file f)"
+is 'none of them' $'1\n'"$usage--admin-file: it is missing, and so is --admin. Example: --admin-file /etc/ocmd/admin.key" "$(ends words --host a.example --disk j)"
+is 'no disk' $'1\n'"$usage--disk: it is missing. Example: --disk /var/lib/ocmd/journal" "$(ends words --host a.example --admin k)"
+is 'no workers' $'1\n'"$usage--workers 0: it is not a number from 1 to 64. Example: --workers 16" "$(ends words --host a.example --disk j --admin k --workers 0)"
+is '65 workers' $'1\n'"$usage--workers 65: it is not a number from 1 to 64. Example: --workers 16" "$(ends words --host a.example --disk j --admin k --workers 65)"
+is 'a host that is none' $'1\n'"$usage--host a_b: a host is a name or an IPv4 address, and :PORT unless that is 80. Example: --host files.example" "$(ends words --host a_b --disk j --admin k)"
 
 head_line 'a server without a standard error'
 begin mute --host mute.example --disk mute.journal --admin k --listen 127.0.0.1:0

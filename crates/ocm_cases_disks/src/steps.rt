@@ -1,14 +1,13 @@
 //! The steps of a case.
 ghost use Rattle.std.specs.Prelude.{◌≤◌, IsTrue};
-ghost use Rattle.ocm_journal_image.specs.Layout.{AreRecords};
 
 use crate::disks::disk_told;
 use crate::pieces::bytes_of;
 use crate::places::{JournalPlace, begin, crash, fuse, load, put, taken};
-use ocm_base::{Bytes, List};
 use ocm_cases_rows::{Steps, steps_told};
 use ocm_disk::MemDisk;
 use ocm_journal::{AppendFault, Journal, RenewFault};
+use ocm_journal_area::AreaRecords;
 use ocm_journal_image::FramedRecord;
 use std::alloc::Global;
 
@@ -93,29 +92,29 @@ fn append_bytes(alloc: Global, journal: &mut Journal<MemDisk>, record: &[u8]) ->
 }
 
 fn renew(alloc: Global, journal: &mut Journal<MemDisk>, row: &str) -> Option<String> {
-    let mut records = List::new(alloc);
-    let told = match add_records(alloc, &mut records, row) {
-        Some(()) => renew_by(alloc, journal, &records),
+    let mut records = AreaRecords::new(alloc, 1).ok()?;
+    match add_records(alloc, &mut records, row) {
+        Some(()) => renew_by(alloc, journal, records),
         None => None,
-    };
-    drop(records);
-    told
+    }
 }
 
-fn add_records(alloc: Global, records: &mut List<Bytes>, row: &str) -> Option<()> {
+fn add_records(alloc: Global, records: &mut AreaRecords, row: &str) -> Option<()> {
     for pieces in row.split(", ") {
-        records.push(bytes_of(alloc, pieces)?).ok()?;
+        let record = bytes_of(alloc, pieces)?;
+        let added = add_record(records, record.as_slice());
+        drop(record);
+        added?;
     }
     Some(())
 }
 
-/// Whether each has a size that a record may have.
-fn are_records(records: &[Bytes]) -> bool
-    ensures { IsTrue result → AreRecords records.now }
-{
-    match records {
-        [] => true,
-        [first, rest @ ..] => is_record(first.len()) && are_records(rest),
+/// Adds a record that has a size that one may have.
+fn add_record(records: &mut AreaRecords, record: &[u8]) -> Option<()> {
+    if is_record(record.len()) {
+        records.add(record, &[], &[]).ok()
+    } else {
+        None
     }
 }
 
@@ -125,12 +124,8 @@ fn is_record(size: usize) -> bool
     1 <= size && size <= 2_097_152
 }
 
-fn renew_by(
-    alloc: Global,
-    journal: &mut Journal<MemDisk>,
-    records: &List<Bytes>,
-) -> Option<String> {
-    if journal.is_stopped() || !are_records(records.as_slice()) {
+fn renew_by(alloc: Global, journal: &mut Journal<MemDisk>, records: AreaRecords) -> Option<String> {
+    if journal.is_stopped() {
         return None;
     }
     match journal.renew(records) {

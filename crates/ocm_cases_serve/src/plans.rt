@@ -1,7 +1,7 @@
 //! Plans of rows.
 use ocm_base::Text;
 use ocm_cases_rows::cut;
-use ocm_serve_options::Plan;
+use ocm_serve_options::{Peers, Plan};
 use ocm_types::{Host, Secret};
 use std::alloc::Global;
 
@@ -28,6 +28,7 @@ fn planned(alloc: Global, host: Host, admin: Secret) -> Plan {
         workers: 1,
         key_file: nothing(alloc),
         connections: 0,
+        peers: Peers::Public,
     }
 }
 

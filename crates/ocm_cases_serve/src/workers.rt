@@ -6,13 +6,13 @@ use crate::gates::Gates;
 use crate::manners::Manner;
 use ocm_base::MemClock;
 use ocm_cases_rows::clock_of;
-use ocm_pump::MemDial;
+use ocm_pump::{DialPost, MemDial};
 use ocm_server::{Draw, GateConn, Worker};
 use ocm_turn::Dated;
 use std::alloc::Global;
 
 /// A worker in memory, of an object that is served.
-pub type Hand<T> = Worker<T, CaseDoor<GateConn>, MemDial, MemClock>;
+pub type Hand<T> = Worker<T, CaseDoor<GateConn>, DialPost<MemDial>, MemClock>;
 
 /// Adds the workers of a row, `; ` between two. The first connection of each is of this manner, and the clock of each gives
 /// these values, `,` between two.
@@ -27,7 +27,8 @@ pub fn add_workers<T: Dated + Drop>(
     for row in rows.split("; ") {
         match ends_of(alloc, gates, row, manner).zip(clock_of(alloc, clocks)) {
             Some(((door, dial), clock)) => {
-                let worker = Worker::new(door, dial, Draw::new([0; 32], 0), clock);
+                let post = DialPost::new(dial);
+                let worker = Worker::new(door, post, Draw::new([0; 32], 0), clock);
                 workers.push(worker).ok()?;
             }
             None => return None,
@@ -44,7 +45,7 @@ pub fn add_worked<T: Dated>(
     pages: &str,
 ) -> Option<()> {
     for worker in workers {
-        add_ends(alloc, text, &worker.door, &worker.dial, pages)?;
+        add_ends(alloc, text, &worker.door, worker.post.dial(), pages)?;
     }
     Some(())
 }

@@ -3,7 +3,7 @@
 use crate::peers::{answer_all, knock};
 use ocm_base::Bytes;
 use ocm_cases_rows::escaped;
-use ocm_net_adapters::{ClientDial, TcpDial};
+use ocm_net_adapters::{ClientDial, Peers, TcpDial};
 use ocm_net_exchanges::{Delivering, Exchanges};
 use ocm_net_waits::Bell;
 use ocm_pump::{Dial, DialEnd};
@@ -87,7 +87,7 @@ fn delivered<R: Threads + Wait + time::Clock + Eprint + Net>(
     rounds: u32,
 ) -> io::Result<Result<Bytes, DialEnd>> {
     let bell = Arc::new(alloc, Bell::new(rt)?)?;
-    let exchanges = Arc::new(alloc, Exchanges::new(rt, alloc, bell)?)?;
+    let exchanges = Arc::new(alloc, Exchanges::new(rt, alloc, bell, Peers::Any)?)?;
     let mut door = Delivering::new(Arc::try_clone(&exchanges)?);
     let mut dial = TcpDial::new(exchanges);
     let mut came = Err(DialEnd::Failed);

@@ -1,10 +1,11 @@
-//! A peer on this machine that knows no more of HTTP than one reply.
+//! A peer on this machine that knows no more of HTTP than one reply, with an interim one ahead of it.
 
 use std::io::{Read, Write};
 use std::net::{Net, SocketAddr, TcpListener, TcpStream};
 
-/// What the peer answers.
-const REPLY: &[u8] = b"HTTP/1.1 200 OK\r\nContent-Length: 5\r\n\r\nhello";
+/// What the peer answers: an interim reply (RFC 9110 section 15.2), and its reply.
+const REPLY: &[u8] =
+    b"HTTP/1.1 103 Early Hints\r\n\r\nHTTP/1.1 200 OK\r\nContent-Length: 5\r\n\r\nhello";
 
 /// How many connections it takes at most.
 const MOST_CONNECTIONS: u32 = 100;

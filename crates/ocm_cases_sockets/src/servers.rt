@@ -5,7 +5,7 @@ use crate::dials::host_at;
 use crate::visits::visits_told;
 use ocm_base::{Clock, GhostBytes};
 use ocm_disk::Disk;
-use ocm_pump::Dial;
+use ocm_pump::Post;
 use ocm_serve::{Opening, serve, workers_for};
 use ocm_serve_options::{Plan, read_plan};
 use ocm_serve_store::Followed;
@@ -75,7 +75,7 @@ fn run_server<
 fn run_workers<
     D: Disk + Send,
     L: Door + Send,
-    N: Dial + Send,
+    N: Post + Send,
     K: Clock + Send,
     R: Threads + Wait + Sync,
 >(
@@ -101,13 +101,13 @@ where
 }
 
 /// Which workers serve, and which deliver.
-fn workers_told<T: Dated, L: Door, N: Dial, K: Clock>(
+fn workers_told<T: Dated, L: Door, N: Post, K: Clock>(
     alloc: Global,
     workers: Vec<Worker<T, L, N, K>>,
 ) -> Option<String> {
     let mut told = String::from_str(alloc, "workers").ok()?;
     for worker in workers.iter() {
-        let does = if worker.dial.delivers() {
+        let does = if worker.post.delivers() {
             " delivers"
         } else {
             " serves"

@@ -7,6 +7,7 @@
 //! | `address`, `own`, `host`, `ownhost`, `name`, `perms` and a text | a text of the protocol |
 //! | `open`, `openhex`, `text`, `inner`, `copied`, `flag`, `number`, `texts`, `objects` and JSON | an object, or a field of it |
 //! | `plan WORD WORD ..` | what these words order of a server, or `usage` |
+//! | `complaint WORD WORD ..` | what is wrong with these words of `serve`, or `none` |
 //! | `key HEX` | the administrator's key that a file of these bytes holds, or `none` |
 //! | `clock` | whether the system's clock is past the year 2020, and does not go back |
 #![tactic(auto)]
@@ -24,7 +25,7 @@ use crate::json::json_told;
 use crate::keys::key_told;
 use crate::paths::{above_told, copy_told, join_told, parent_told, path_told};
 use crate::plain::{decimal_told, hex_told};
-use crate::plans::plan_told;
+use crate::plans::{complaint_told, plan_told};
 use crate::texts::{
     address_told, host_told, name_told, own_address_told, own_host_told, perms_told,
 };
@@ -43,6 +44,7 @@ fn line_told<R: time::Clock>(rt: &R, alloc: Global, line: &str) -> Option<String
     match kind {
         "clock" => clock_told(rt, alloc),
         "plan" => plan_told(alloc, text),
+        "complaint" => complaint_told(alloc, text),
         "key" => key_told(alloc, text),
         "hex" => hex_told(alloc, text),
         "decimal" => decimal_told(alloc, text),

@@ -1,4 +1,4 @@
-use ocm_serve_options::{AdminKey, Orders, PlanFault, read_plan};
+use ocm_serve_options::{AdminKey, Orders, Peers, PlanFault, complaint_of, read_plan};
 use std::alloc::Global;
 
 /// The words between blanks.
@@ -23,13 +23,35 @@ pub fn plan_told(alloc: Global, text: &str) -> Option<String> {
     }
 }
 
+/// What is wrong with these words, told, or `none`.
+pub fn complaint_told(alloc: Global, text: &str) -> Option<String> {
+    let words = words_of(alloc, text)?;
+    let told = match complaint_of(alloc, &words) {
+        Some(complaint) => format!(in alloc; "{complaint}").ok(),
+        None => String::from_str(alloc, "none").ok(),
+    };
+    drop(words);
+    told
+}
+
 /// The orders, told: the file of the log last, where there is to be one.
 fn told(alloc: Global, orders: &Orders) -> Option<String> {
-    let told = told_without_log(alloc, orders)?;
+    let told = with_peers(alloc, told_without_log(alloc, orders)?, orders)?;
     match &orders.log {
         Some(path) => with_log(alloc, told, path.as_str()),
         None => Some(told),
     }
+}
+
+/// What was told, and behind it what is chosen of peers.
+fn with_peers(alloc: Global, told: String, orders: &Orders) -> Option<String> {
+    let peers = match orders.peers {
+        Peers::Public => "",
+        Peers::Private => " peers private",
+    };
+    let line = format!(in alloc; "{}{peers}", told.as_str());
+    drop(told);
+    line.ok()
 }
 
 /// What was told, and the file of the log behind it.

@@ -98,6 +98,8 @@ plain-gives commands.Compact bytes end text shelf gives = gives
 plain-gives (commands.Check kind) bytes end text shelf gives = gives
 plain-gives (commands.Drill number events) bytes end text shelf gives = absurd gives
 plain-gives commands.Help bytes end text shelf gives = gives
+plain-gives commands.ServeHelp bytes end text shelf gives = gives
+plain-gives commands.DavHelp bytes end text shelf gives = gives
 plain-gives commands.Version bytes end text shelf gives = gives
 
 -- what a plain command writes is what the command writes, with any shelf

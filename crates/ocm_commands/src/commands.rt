@@ -135,6 +135,8 @@ fn run_on<K: Sink>(
         | Command::Compact
         | Command::Check(_)
         | Command::Help
+        | Command::ServeHelp
+        | Command::DavHelp
         | Command::Version => run_plain(alloc, command, bytes.as_slice(), sink),
     }
 }

@@ -1,9 +1,11 @@
 -- The words and their task.
-use Rattle.std.proofs.Common.{◌≡◌, ℕ, ◌<◌, ◌≤◌, List, [], ◌∷◌, length, get_or, map, ap, refl, arith}
-use Rattle.std.specs.Prelude.{codes}
+use Rattle.std.proofs.Common.{◌≡◌, ℕ, ◌<◌, ◌≤◌, List, [], ◌∷◌, length, get_or, map, Result, Ok, Err, ap, refl, arith}
+use Rattle.std.specs.Prelude.{codes, IfErr}
 use Rattle.ocm_path.specs.Paths.{Segments}
-use Rattle.ocm_commands_dav.specs.Words.{Asks, Spells, verb_word}
+use Rattle.ocm_commands_dav.specs.Words.{Asks, IsCause, IsOther, IsUsage, Spells, verb_word}
 use Rattle.ocm_commands_dav.specs.declared.tasks.Task.{Task}
+use Rattle.ocm_commands_dav.specs.declared.tasks.WordsFault.{WordsFault}
+use Rattle.ocm_commands_dav.specs.declared.tasks.WordsFault.TheVariants as faults
 use Rattle.ocm_commands_dav.specs.declared.verbs.Verb.{Verb}
 use Rattle.ocm_commands_dav.specs.declared.verbs.Verb.TheVariants as verbs
 
@@ -33,6 +35,21 @@ spelled_of words verb host secret path same task (v, h, s, p, is, (e, f, g, k)) 
     let es : s ≡ secret = cc in
     let ep : p ≡ path = cc in
     (cc, rw eh at f, rw es at g, rw ep at k)
+
+-- where one of the texts has a fault they spell no task
+pub unspelled : (fault : WordsFault) (verb host secret path : List ℕ) → IsCause fault verb host secret path → (task : Task) → Spells verb host secret path task → ⊥
+unspelled faults.Number verb host secret path cause task spells = cause
+unspelled faults.Verb verb host secret path cause task spells = cause task.verb spells.0
+unspelled faults.Host verb host secret path cause task spells = cause task.host spells.1
+unspelled faults.Secret verb host secret path cause task spells = cause task.secret spells.2
+unspelled faults.Path verb host secret path cause task spells = cause task.path spells.3
+unspelled faults.NoMemory verb host secret path cause task spells = cause
+
+-- nor do five words whose texts these are ask for one
+pub unasked : (words : List (List ℕ)) (verb host secret path : List ℕ) → words ≡ codes "dav" ∷ verb ∷ host ∷ secret ∷ path ∷ [] → (r : Result Task WordsFault)
+    → IfErr r (λ fault. IsUsage fault → IsCause fault verb host secret path) → IfErr r (λ fault. IsUsage fault → IsOther words)
+unasked words verb host secret path same (Ok task) cause = tt
+unasked words verb host secret path same (Err fault) cause = λ usage task asked. unspelled fault verb host secret path (cause usage) task (spelled_of words verb host secret path same task asked)
 
 -- ---- words ask for one task at most
 

@@ -2,8 +2,10 @@
 use Rattle.std.specs.Prelude.{◌≡◌, ℕ, List, [], ◌∷◌, ◌++◌, codes, Some, Ok}
 use Rattle.ocm_types.specs.Hosts.{host_of}
 use Rattle.ocm_types.specs.Texts.{secret_of}
-use Rattle.ocm_path.specs.Paths.{path_of}
+use Rattle.ocm_path.specs.Paths.{Segments, path_of}
 use Rattle.ocm_commands_dav.specs.declared.tasks.Task.{Task}
+use Rattle.ocm_commands_dav.specs.declared.tasks.WordsFault.{WordsFault}
+use Rattle.ocm_commands_dav.specs.declared.tasks.WordsFault.TheVariants as faults
 use Rattle.ocm_commands_dav.specs.declared.verbs.Verb.{Verb}
 use Rattle.ocm_commands_dav.specs.declared.verbs.Verb.TheVariants as verbs
 
@@ -23,6 +25,19 @@ verb_word verbs.List = codes "list"
 abbrev pub Spells : List ℕ → List ℕ → List ℕ → List ℕ → Task → Type 0
 Spells verb host secret path task =
     (verb ≡ verb_word task.verb) × (host_of host ≡ Ok task.host) × (secret_of secret ≡ Some task.secret) × (path_of path ≡ Ok task.path)
+
+-- the fault lies in the words
+abbrev pub IsUsage : WordsFault → Type 0
+IsUsage faults.NoMemory = ⊥
+IsUsage _ = Unit {0}
+
+-- the fault is that of one of these texts, which is no verb, host, secret or path
+abbrev pub IsCause : WordsFault → List ℕ → List ℕ → List ℕ → List ℕ → Type 0
+IsCause faults.Verb verb host secret path = (v : Verb) → verb ≡ verb_word v → ⊥
+IsCause faults.Host verb host secret path = (h : List ℕ) → host_of host ≡ Ok h → ⊥
+IsCause faults.Secret verb host secret path = (s : List ℕ) → secret_of secret ≡ Some s → ⊥
+IsCause faults.Path verb host secret path = (p : Segments) → path_of path ≡ Ok p → ⊥
+IsCause _ verb host secret path = ⊥
 
 -- the words ask for a task
 abbrev pub Asks : List (List ℕ) → Task → Type 0

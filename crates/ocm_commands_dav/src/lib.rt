@@ -13,3 +13,4 @@ mod verbs;
 pub use ends::End;
 pub use laws::words_have_one_answer;
 pub use remotes::remote;
+pub use tasks::{WordsFault, test_words};

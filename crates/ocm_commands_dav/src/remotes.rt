@@ -5,7 +5,7 @@ ghost use Rattle.ocm_limits.specs.Limits.{most_body_bytes};
 ghost use Rattle.ocm_davclient.specs.declared.faults.ClientFault.{ClientFault};
 ghost use Rattle.ocm_commands_dav.specs.Answers.{IsTold, end_of, text_of};
 ghost use Rattle.ocm_commands_dav.specs.Exchanges.{AsksPut, Does, DoesAsked};
-ghost use Rattle.ocm_commands_dav.specs.Words.{IsOther, usage_line};
+ghost use Rattle.ocm_commands_dav.specs.Words.{IsOther, IsUsage, usage_line};
 ghost use Rattle.ocm_commands_dav.specs.declared.verbs.Verb.TheVariants as verbs;
 
 use crate::bodies::body_for;
@@ -60,8 +60,23 @@ pub fn remote<S: Source, K: Sink, N: Dial>(
 {
     match Task::read(alloc, words) {
         Ok(task) => run(alloc, task, source, sink, dial),
-        Err(WordsFault::Usage) => tell_usage(sink),
-        Err(WordsFault::NoMemory) => End::NoMemory,
+        Err(fault) => refuse(fault, sink),
+    }
+}
+
+/// Tells the commands where the fault lies in the words.
+fn refuse<K: Sink>(fault: WordsFault, sink: &mut K) -> End
+    ensures usage { result ≡ End.Usage → IsUsage fault }
+    ensures usage_line { result ≡ End.Usage → Appends (K.taken sink.old) (K.taken sink.new) usage_line }
+    ensures one { (result ≡ End.Usage) ⊎ (result ≡ End.WriteFault) ⊎ (result ≡ End.NoMemory) }
+    ensures part_of_usage { result ≡ End.WriteFault → IsUsage fault × AppendsPart (K.taken sink.old) (K.taken sink.new) usage_line }
+    ensures unwritten { result ≡ End.NoMemory → sink.new ≡ sink.old }
+    ensures write_fault { result ≡ End.WriteFault → Rose (K.faults sink.old) (K.faults sink.new) }
+{
+    if fault.is_usage() {
+        tell_usage(sink)
+    } else {
+        End::NoMemory
     }
 }
 

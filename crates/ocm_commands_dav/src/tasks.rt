@@ -1,9 +1,9 @@
-ghost use Rattle.std.specs.Prelude.{◌≡◌, ◌↔◌, List, ℕ, Ok, Err, Some, IfOk, IsTrue, map};
+ghost use Rattle.std.specs.Prelude.{◌≡◌, ◌↔◌, List, ℕ, Ok, Some, IfOk, IfErr, IsTrue, map, true, false};
 ghost use Rattle.std.specs.String.{string_bytes};
 ghost use Rattle.ocm_types.specs.Hosts.{host_of};
 ghost use Rattle.ocm_types.specs.Texts.{secret_of};
 ghost use Rattle.ocm_path.specs.Paths.{Segments, path_of};
-ghost use Rattle.ocm_commands_dav.specs.Words.{Asks, IsOther, Spells, verb_word};
+ghost use Rattle.ocm_commands_dav.specs.Words.{Asks, IsCause, IsOther, IsUsage, Spells, verb_word};
 
 use crate::verbs::Verb;
 use ocm_base::and;
@@ -24,49 +24,77 @@ pub struct Task {
 /// Why the words gave no task.
 #[derive(Clone, Copy, Debug, PartialEq, Eq)]
 pub enum WordsFault {
-    /// They ask for nothing.
-    Usage,
+    /// They are not five, of which the first is `dav`.
+    Number,
+    /// The second is no verb.
+    Verb,
+    /// The third is no host.
+    Host,
+    /// The fourth is no secret.
+    Secret,
+    /// The fifth is no path.
+    Path,
     /// There was no memory for the task.
     NoMemory,
 }
 
+impl WordsFault {
+    /// Whether it lies in the words.
+    pub fn is_usage(self) -> bool
+        ensures usage { result ≡ true → IsUsage self }
+        ensures no_memory { result ≡ false → self ≡ WordsFault.NoMemory }
+    {
+        match self {
+            WordsFault::Number
+            | WordsFault::Verb
+            | WordsFault::Host
+            | WordsFault::Secret
+            | WordsFault::Path => true,
+            WordsFault::NoMemory => false,
+        }
+    }
+}
+
 fn verb_in(word: &str) -> Result<Verb, WordsFault>
     ensures ok { IfOk result (λ verb. word.now ≡ verb_word verb) }
-    ensures other { result ≡ Err WordsFault.Usage → (verb : Verb) → word.now ≡ verb_word verb → ⊥ }
+    ensures other { IfErr result (λ fault. (fault ≡ WordsFault.Verb) × ((verb : Verb) → word.now ≡ verb_word verb → ⊥)) }
 {
-    Verb::read(word).ok_or(WordsFault::Usage)
+    match Verb::read(word) {
+        Some(verb) => Ok(verb),
+        None => Err(WordsFault::Verb),
+    }
 }
 
 fn host_in(alloc: Global, word: &str) -> Result<Host, WordsFault>
     ensures ok { IfOk result (λ host. host_of word.now ≡ Ok host) }
-    ensures other { result ≡ Err WordsFault.Usage → (host : List ℕ) → host_of word.now ≡ Ok host → ⊥ }
+    ensures other { IfErr result (λ fault. IsUsage fault → (fault ≡ WordsFault.Host) × ((host : List ℕ) → host_of word.now ≡ Ok host → ⊥)) }
 {
     match Host::read(alloc, word) {
         Ok(host) => Ok(host),
         Err(AddressFault::NoMemory) => Err(WordsFault::NoMemory),
-        Err(_) => Err(WordsFault::Usage),
+        Err(_) => Err(WordsFault::Host),
     }
 }
 
 fn secret_in(alloc: Global, word: &str) -> Result<Secret, WordsFault>
     ensures ok { IfOk result (λ secret. secret_of word.now ≡ Some secret) }
-    ensures other { result ≡ Err WordsFault.Usage → (secret : List ℕ) → secret_of word.now ≡ Some secret → ⊥ }
+    ensures other { IfErr result (λ fault. IsUsage fault → (fault ≡ WordsFault.Secret) × ((secret : List ℕ) → secret_of word.now ≡ Some secret → ⊥)) }
 {
     match Secret::read(alloc, word) {
         Ok(secret) => Ok(secret),
         Err(TextFault::NoMemory) => Err(WordsFault::NoMemory),
-        Err(_) => Err(WordsFault::Usage),
+        Err(_) => Err(WordsFault::Secret),
     }
 }
 
 fn path_in(alloc: Global, word: &str) -> Result<Path, WordsFault>
     ensures ok { IfOk result (λ path. path_of word.now ≡ Ok path) }
-    ensures other { result ≡ Err WordsFault.Usage → (path : Segments) → path_of word.now ≡ Ok path → ⊥ }
+    ensures other { IfErr result (λ fault. IsUsage fault → (fault ≡ WordsFault.Path) × ((path : Segments) → path_of word.now ≡ Ok path → ⊥)) }
 {
     match Path::read(alloc, word) {
         Ok(path) => Ok(path),
         Err(PathFault::NoMemory) => Err(WordsFault::NoMemory),
-        Err(_) => Err(WordsFault::Usage),
+        Err(_) => Err(WordsFault::Path),
     }
 }
 
@@ -74,7 +102,7 @@ impl Task {
     /// The task that the words behind the program's name ask for.
     pub fn read(alloc: Global, words: &[String]) -> Result<Task, WordsFault>
         ensures ok { IfOk result (λ task. Asks (map (λ word. string_bytes word) words.now) task) }
-        ensures other { result ≡ Err WordsFault.Usage → IsOther (map (λ word. string_bytes word) words.now) }
+        ensures other { IfErr result (λ fault. IsUsage fault → IsOther (map (λ word. string_bytes word) words.now)) }
     {
         match words {
             [dav, verb, host, secret, path] if is_word(dav.as_str(), "dav") => Task::spelled(
@@ -84,7 +112,7 @@ impl Task {
                 secret.as_str(),
                 path.as_str(),
             ),
-            _ => Err(WordsFault::Usage),
+            _ => Err(WordsFault::Number),
         }
     }
 
@@ -97,7 +125,7 @@ impl Task {
         path: &str,
     ) -> Result<Task, WordsFault>
         ensures ok { IfOk result (λ task. Spells verb.now host.now secret.now path.now task) }
-        ensures other { result ≡ Err WordsFault.Usage → (task : Task) → Spells verb.now host.now secret.now path.now task → ⊥ }
+        ensures cause { IfErr result (λ fault. IsUsage fault → IsCause fault verb.now host.now secret.now path.now) }
     {
         let verb = verb_in(verb)?;
         let host = host_in(alloc, host)?;
@@ -116,4 +144,14 @@ fn is_word(word: &str, keyword: &str) -> bool
     ensures { IsTrue result ↔ (word.now ≡ keyword.now) }
 {
     word == keyword
+}
+
+/// Whether the words ask for a task, and if not, why.
+pub fn test_words(alloc: Global, words: &[String]) -> Result<(), WordsFault>
+    ensures { IfErr result (λ fault. IsUsage fault → IsOther (map (λ word. string_bytes word) words.now)) }
+{
+    match Task::read(alloc, words) {
+        Ok(_) => Ok(()),
+        Err(fault) => Err(fault),
+    }
 }

@@ -13,6 +13,8 @@ lengths commands.Compact words is = let e : length words ≡ 1 = ap length is in
 lengths (commands.Check kind) words is = let e : length words ≡ 2 = ap length is in (omega arith, omega arith)
 lengths commands.Help words (inl is) = let e : length words ≡ 1 = ap length is in (omega arith, omega arith)
 lengths commands.Help words (inr is) = let e : length words ≡ 1 = ap length is in (omega arith, omega arith)
+lengths commands.ServeHelp words is = let e : length words ≡ 2 = ap length is in (omega arith, omega arith)
+lengths commands.DavHelp words is = let e : length words ≡ 2 = ap length is in (omega arith, omega arith)
 lengths commands.Version words (inl is) = let e : length words ≡ 1 = ap length is in (omega arith, omega arith)
 lengths commands.Version words (inr is) = let e : length words ≡ 1 = ap length is in (omega arith, omega arith)
 lengths (commands.Trace host) [] is = absurd is

@@ -6,7 +6,7 @@ use Rattle.ocm_commands_files.specs.declared.ends.End.{End}
 use Rattle.ocm_commands_files.specs.declared.ends.End.TheVariants as whole
 use Rattle.ocm_commands_files.specs.declared.ends.Fault.{Fault}
 use Rattle.ocm_commands_files.specs.declared.ends.Fault.TheVariants as faults
-use Rattle.ocm_commands_files.specs.declared.help.TheConstants.{HELP, VERSION}
+use Rattle.ocm_commands_files.specs.declared.help.TheConstants.{DAV_HELP, HELP, SERVE_HELP, VERSION}
 use Rattle.ocm_commands_files.specs.declared.words.Command.{Command}
 use Rattle.ocm_commands_files.specs.declared.words.Command.TheVariants as commands
 use Rattle.ocm_commands_files.specs.Audits.{AuditsTo}
@@ -33,6 +33,8 @@ GivesPlain commands.Logcheck bytes end text = LogchecksTo bytes end text
 GivesPlain commands.Compact bytes end text = CompactsTo bytes end text
 GivesPlain (commands.Check kind) bytes end text = Checks kind bytes end text
 GivesPlain commands.Help bytes end text = (end ≡ whole.Done) × (text ≡ HELP.now)
+GivesPlain commands.ServeHelp bytes end text = (end ≡ whole.Done) × (text ≡ SERVE_HELP.now)
+GivesPlain commands.DavHelp bytes end text = (end ≡ whole.Done) × (text ≡ DAV_HELP.now)
 GivesPlain commands.Version bytes end text = (end ≡ whole.Done) × (text ≡ VERSION.now)
 GivesPlain _ bytes end text = ⊥
 

@@ -40,6 +40,8 @@ AreOf commands.Compact words = words ≡ codes "compact" ∷ []
 AreOf (commands.Trace host) words = AreTrace host words
 AreOf (commands.Drill number events) words = AreDrill number events words
 AreOf commands.Help words = (words ≡ codes "help" ∷ []) ⊎ (words ≡ codes "--help" ∷ [])
+AreOf commands.ServeHelp words = words ≡ codes "serve" ∷ codes "--help" ∷ []
+AreOf commands.DavHelp words = words ≡ codes "dav" ∷ codes "--help" ∷ []
 AreOf commands.Version words = (words ≡ codes "version" ∷ []) ⊎ (words ≡ codes "--version" ∷ [])
 
 -- these are words of no command
@@ -59,6 +61,8 @@ IsSmall _ = Unit {0}
 abbrev pub reads : Command → Bool
 reads (commands.Drill number events) = false
 reads commands.Help = false
+reads commands.ServeHelp = false
+reads commands.DavHelp = false
 reads commands.Version = false
 reads _ = true
 

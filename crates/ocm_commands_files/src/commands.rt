@@ -8,7 +8,7 @@ use crate::audits::run_audit;
 use crate::checks::check;
 use crate::compacts::run_compact;
 use crate::ends::{End, Fault};
-use crate::help::{HELP, VERSION};
+use crate::help::{DAV_HELP, HELP, SERVE_HELP, VERSION};
 use crate::lines::write_text;
 use crate::logchecks::run_logcheck;
 use crate::words::Command;
@@ -79,6 +79,8 @@ pub fn run_plain<K: Sink>(
         Command::Compact => run_compact(alloc, bytes, sink),
         Command::Check(kind) => check(alloc, *kind, bytes, sink),
         Command::Help => write_text(HELP, sink),
+        Command::ServeHelp => write_text(SERVE_HELP, sink),
+        Command::DavHelp => write_text(DAV_HELP, sink),
         Command::Version => write_text(VERSION, sink),
         Command::Replay | Command::Trace(_) | Command::Drill { .. } => unreachable!(),
     }

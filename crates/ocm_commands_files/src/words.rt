@@ -61,6 +61,10 @@ pub enum Command {
     },
     /// `help` or `--help`: tells the commands, their options and the statuses.
     Help,
+    /// `serve --help`: tells the options of `serve`.
+    ServeHelp,
+    /// `dav --help`: tells the words of `dav`.
+    DavHelp,
     /// `version` or `--version`: tells the version.
     Version,
 }
@@ -79,6 +83,8 @@ impl Drop for Command {
                 events: _,
             } => {}
             Command::Help => {}
+            Command::ServeHelp => {}
+            Command::DavHelp => {}
             Command::Version => {}
         }
     }
@@ -134,6 +140,8 @@ impl Command {
                 Some(host) => Ok(Some(Command::Trace(host))),
                 None => Ok(None),
             },
+            "serve" if argument == "--help" => Ok(Some(Command::ServeHelp)),
+            "dav" if argument == "--help" => Ok(Some(Command::DavHelp)),
             _ => Ok(None),
         }
     }
@@ -168,7 +176,11 @@ impl Command {
             | Command::Logcheck
             | Command::Compact
             | Command::Check(_) => true,
-            Command::Drill { .. } | Command::Help | Command::Version => false,
+            Command::Drill { .. }
+            | Command::Help
+            | Command::ServeHelp
+            | Command::DavHelp
+            | Command::Version => false,
         }
     }
 
@@ -181,7 +193,11 @@ impl Command {
             Command::Audit | Command::Compact => MOST_AUDITED_BYTES,
             Command::Logcheck => MOST_LOGCHECK_BYTES,
             Command::Check(_) => MOST_JSON_BYTES as u64,
-            Command::Drill { .. } | Command::Help | Command::Version => 0,
+            Command::Drill { .. }
+            | Command::Help
+            | Command::ServeHelp
+            | Command::DavHelp
+            | Command::Version => 0,
         }
     }
 }

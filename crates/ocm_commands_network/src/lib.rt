@@ -1,6 +1,7 @@
 //! The commands `serve` and `dav` of the program `ocmd`, over the network.
 #![tactic(auto)]
 
+mod complaints;
 mod remotes;
 mod servers;
 

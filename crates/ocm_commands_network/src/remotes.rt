@@ -8,28 +8,31 @@ ghost use Rattle.ocm_commands_dav.specs.Answers.{IsTold, status_of};
 ghost use Rattle.ocm_commands_dav.specs.Exchanges.{AsksPut};
 ghost use Rattle.ocm_commands_dav.specs.Words.{IsOther, usage_line};
 
+use crate::complaints::Complaint;
 use ocm_base::{Sink, Source};
 use ocm_commands_dav::{End, remote};
 use ocm_net_adapters::ClientDial;
+use ocm_serve_options::asks_help;
 use std::alloc::Global;
 use std::io::Eprint;
 use std::net::{Net, TcpListener, TcpStream};
 use std::sync::Wait;
 use std::time;
 
-/// Whether the words behind the program's name ask for a request to a server.
+/// Whether the words behind the program's name ask for a request to a server, and not for the words of one.
 pub fn asks_remote(words: &[String]) -> bool
     ensures { result ≡ specified.asks_remote (map (λ word. string_bytes word) words.now) }
 {
     match words {
-        [word, ..] => word.as_str() == "dav",
+        [word, rest @ ..] => word.as_str() == "dav" && !asks_help(rest),
         [] => false,
     }
 }
 
-/// Makes the request that the words ask for, over TCP. For words that ask for none it tells the commands.
+/// Makes the request that the words ask for, over TCP. For words that ask for none it tells the commands, and on standard error
+/// what is wrong with the words.
 pub fn run_remote<
-    R: Wait + time::Clock + Net<Listener = TcpListener, Stream = TcpStream>,
+    R: Wait + time::Clock + Eprint + Net<Listener = TcpListener, Stream = TcpStream>,
     S: Source,
     K: Sink,
 >(rt: &R, alloc: Global, words: &[String], source: &mut S, sink: &mut K) -> End
@@ -57,7 +60,18 @@ pub fn run_remote<
     ensures write_fault { result ≡ End.WriteFault → Rose (K.faults sink.old) (K.faults sink.new) }
 {
     let mut dial = ClientDial::new(rt);
-    remote(alloc, words, source, sink, &mut dial)
+    let end = remote(alloc, words, source, sink, &mut dial);
+    tell_complaint(rt, alloc, words, end);
+    end
+}
+
+/// Tells what is wrong with words of `dav` that ask for no request, where it ended since they do not.
+fn tell_complaint<R: Eprint>(rt: &R, alloc: Global, words: &[String], end: End) {
+    if end == End::Usage {
+        if let Some(complaint) = Complaint::of(alloc, words) {
+            let _ = eprintln!(rt; "ocmd: {complaint}");
+        }
+    }
 }
 
 /// Tells on standard error how `dav` ended where nothing on standard output tells it, and answers the status of the program.

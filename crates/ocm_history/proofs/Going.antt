@@ -1,9 +1,8 @@
 -- How a memory goes on by records.
-use Rattle.std.proofs.Common.{◌≡◌, ℕ, ◌+◌, ◌<◌, ◌≤◌, ◌==◌, nat_lt, List, [], ◌∷◌, ◌++◌, length, take, drop, get_or, suc, Bool, true, false, refl, sym, ap, ◌∙◌, subst, arith, Option, Some, None, Result, Ok, Err}
+use Rattle.std.proofs.Common.{◌≡◌, ℕ, ◌<◌, ◌≤◌, ◌==◌, nat_lt, List, [], ◌∷◌, ◌++◌, length, Bool, true, false, refl, sym, ap, ◌∙◌, subst, arith, Option, Some, None, Result, Ok, Err}
 use Rattle.std.specs.Prelude.{IfOk, if◌then◌else◌, nat_le, option_and_then}
 use Rattle.std.proofs.lemmas.Bool.Decides.{nat_tests}
-use Rattle.std.proofs.lemmas.List.{map-append, take_more}
-use Rattle.std.proofs.Math.Seq.{split_at, take-length}
+use Rattle.std.proofs.lemmas.List.{map-append}
 use Rattle.ocm_entry.specs.declared.asks.Ask.{Ask}
 use Rattle.ocm_entry.specs.declared.asks.Ask.TheVariants.{Tick}
 use Rattle.ocm_entry.specs.declared.entries.Entry.{Entry}
@@ -169,34 +168,34 @@ pub opened-none : (host : List ℕ) (form : ℕ) (history : History) → IsMemor
 opened-none host form history memory = record { list = []; opens = refl; memory = memory }
 
 -- with one more
-pub opened-next : (host : List ℕ) (form : ℕ) (records : List RawRecord) (i : ℕ) (r : RawRecord) (old new : History) → i < length records → r ≡ get_or records i r
-    → Opened host form (take i records) old → GoesOn old new (λ k. goes_on host form k r.bytes) true → Opened host form (take (i + 1) records) new
-opened-next host form records i r old new below is upto goes =
+pub opened-next : (host : List ℕ) (form : ℕ) (before : List RawRecord) (r : RawRecord) (old new : History) → Opened host form before old → GoesOn old new (λ k. goes_on host form k r.bytes) true
+    → Opened host form (before ++ r ∷ []) new
+opened-next host form before r old new upto goes =
     let next = goes.on refl upto.list upto.memory in
     record {
       list = next.0;
-      opens = ap (λ rs. opened host form (contents rs)) (take_more records i r below ∙ ap (λ x. take i records ++ x ∷ []) (sym is))
-          ∙ ap (opened host form) (map-append (λ (x : RawRecord). x.bytes) (take i records) (r ∷ []))
-          ∙ opened-more host form (contents (take i records)) r.bytes upto.list upto.opens
+      opens = ap (opened host form) (map-append (λ (x : RawRecord). x.bytes) before (r ∷ []))
+          ∙ opened-more host form (contents before) r.bytes upto.list upto.opens
           ∙ next.1;
       memory = next.2;
     }
 
 -- or one that is refused
-pub opened-refused : (host : List ℕ) (form : ℕ) (records : List RawRecord) (i : ℕ) (r : RawRecord) (old new : History) → i < length records → r ≡ get_or records i r
-    → Opened host form (take i records) old → GoesOn old new (λ k. goes_on host form k r.bytes) false → refused_at host form records ≡ Some r.place
-opened-refused host form records i r old new below is upto goes =
-    ap (refused_at host form) (split_at records i r below ∙ ap (λ x. take i records ++ x ∷ rest) (sym is))
-    ∙ refused-first host form (take i records) rest r [] upto.list upto.opens (goes.nowhere refl upto.list upto.memory)
-  where
-    rest : List RawRecord
-    rest = drop (suc i) records
+pub opened-refused : (host : List ℕ) (form : ℕ) (records before rest : List RawRecord) (r : RawRecord) (old new : History) → records ≡ before ++ r ∷ rest
+    → Opened host form before old → GoesOn old new (λ k. goes_on host form k r.bytes) false → refused_at host form records ≡ Some r.place
+opened-refused host form records before rest r old new is upto goes =
+    ap (refused_at host form) is
+    ∙ refused-first host form before rest r [] upto.list upto.opens (goes.nowhere refl upto.list upto.memory)
+
+nothing-behind : (xs : List RawRecord) → xs ++ [] ≡ xs
+nothing-behind [] = refl
+nothing-behind (x ∷ xs) = ap (λ l. x ∷ l) (nothing-behind xs)
 
 -- all of them
-pub opened-all : (host : List ℕ) (form n : ℕ) (items records : List RawRecord) (history : History) → n ≡ length items → items ≡ records → Opened host form (take n items) history
+pub opened-all : (host : List ℕ) (form : ℕ) (before rest records : List RawRecord) (history : History) → before ++ rest ≡ records → length rest ≡ 0 → Opened host form before history
     → (k : List Entry) × (opened host form (contents records) ≡ Some k) × IsMemoryOf history k
-opened-all host form n items records history whole same upto =
-    (upto.list, ap (λ rs. opened host form (contents rs)) (sym (ap (λ m. take m items) whole ∙ take-length items ∙ same)) ∙ upto.opens, upto.memory)
+opened-all host form before [] records history is none upto = (upto.list, ap (λ rs. opened host form (contents rs)) (sym is ∙ nothing-behind before) ∙ upto.opens, upto.memory)
+opened-all host form before (r ∷ rest) records history is none upto = absurd (let wrong : ⊥ = omega (arith, none) in wrong)
 
 -- a step of another spelling of the host
 pub goes-home : (old new : History) (host other : List ℕ) (form : ℕ) (bytes : List ℕ) (taken : Bool) → other ≡ host → GoesOn old new (λ k. goes_on other form k bytes) taken → GoesOn old new (λ k. goes_on host form k bytes) taken

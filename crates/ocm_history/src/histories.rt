@@ -16,12 +16,18 @@ ghost use Rattle.ocm_history.specs.Changes.{IsChange, told};
 ghost use Rattle.ocm_history.specs.Histories.{HasPlace, IsOf, SameMemory, home_of};
 ghost use Rattle.ocm_history_records.specs.Kept.{IsBound, is_tick_record};
 
-use ocm_base::{Bytes, List, NoMemory};
+use ocm_base::NoMemory;
 use ocm_core::{Core, Planned};
 use ocm_entry::{Ask, Reply};
 use ocm_history_records::{Draft, KeptRecord, KeptRecords, RecordFault, add_asked, add_text};
+use ocm_journal_area::AreaRecords;
+use ocm_journal_image::GREATEST_RECORD;
 use ocm_types::Host;
 use std::alloc::Global;
+
+/// For how many bytes room is taken beside the records of the entries that are kept, where a journal is written anew: for one
+/// record more, and for what is not filled of the area before, since a record had no room there.
+const MOST_BESIDE: u64 = 2 * (GREATEST_RECORD as u64 + 7);
 
 /// The memory of a server.
 pub struct History {
@@ -104,14 +110,16 @@ impl History {
         ensures { (g : List Entry) (ask : Ask) (form : ℕ) (draft : Draft) → IsChange self.now g ask planned.now form draft → newest.now ≡ draft.newest
             → let host = home_of self.now in result ≡ min (asks_size (lean host (heard host g ask ∷ g))) 18446744073709551615 }
     {
-        let records = self.records.as_slice();
+        let mut left = self.records.left();
+        let mut number: u64 = 0;
         let mut size: u64 = 0;
-        for (place, record) in records.iter().enumerate() {
-            let standing = self.core.standing(planned, place as u64 + 1);
-            size = size.saturating_add(record.asked_size(standing));
+        while let Some(kept) = left.next() {
+            number += 1;
+            let standing = self.core.standing(planned, number);
+            size = size.saturating_add(kept.asked_size(standing));
         }
-        let standing = self.core.standing(planned, records.len() as u64 + 1);
-        size.saturating_add(newest.asked_size(standing))
+        let standing = self.core.standing(planned, number + 1);
+        size.saturating_add(newest.view().asked_size(standing))
     }
 
     /// The records in form 2 of the shortest form of the journal, once a change is made of which this is kept. `TooLong`
@@ -120,7 +128,7 @@ impl History {
         &self,
         planned: &Planned,
         newest: &KeptRecord,
-    ) -> Result<List<Bytes>, RecordFault>
+    ) -> Result<AreaRecords, RecordFault>
         requires planned { IsPlanned self.now.core.state planned.now }
         requires few { length self.now.records.items < 18446744073709551615 }
         ensures sizes { IfOk result AreRecords }
@@ -128,15 +136,17 @@ impl History {
             → let host = home_of self.now in records ≡ records_of (lean host (heard host g ask ∷ g))) }
         ensures not_full { (g : List Entry) (ask : Ask) (form : ℕ) (draft : Draft) → IsChange self.now g ask planned.now form draft → newest.now ≡ draft.newest → result ≢ Err RecordFault.TooLong }
     {
-        let alloc = self.records.allocator();
-        let records = self.records.as_slice();
-        let mut texts = List::new(alloc);
-        for (place, record) in records.iter().enumerate() {
-            let standing = self.core.standing(planned, place as u64 + 1);
-            add_asked(alloc, &mut texts, record, standing)?;
+        let room = self.records.size().saturating_add(MOST_BESIDE) as usize;
+        let mut texts = AreaRecords::new(self.records.allocator(), room)?;
+        let mut left = self.records.left();
+        let mut number: u64 = 0;
+        while let Some(kept) = left.next() {
+            number += 1;
+            let standing = self.core.standing(planned, number);
+            add_asked(&mut texts, &kept, standing)?;
         }
-        let standing = self.core.standing(planned, records.len() as u64 + 1);
-        add_text(alloc, &mut texts, newest, standing)?;
+        let standing = self.core.standing(planned, number + 1);
+        add_text(&mut texts, &newest.view(), standing)?;
         Ok(texts)
     }
 

@@ -72,23 +72,25 @@ fn take_record(history: &mut History, form: u8, raw: &RawRecord) -> Result<bool,
     }
 }
 
-/// Goes on from nothing by the records of an area of this form. `Refused` has the place of the gate of the first by which
-/// it does not go on.
+/// Goes on from nothing by the records of an area of this form, each of which is let go once it was taken. `Refused` has the
+/// place of the gate of the first by which it does not go on.
 pub fn take_records(
     history: &mut History,
     form: u8,
-    records: &List<RawRecord>,
+    records: List<RawRecord>,
 ) -> Result<(), ReplayFault>
     requires { IsMemoryOf history.old [] }
     ensures home { home_of history.new ≡ home_of history.old }
-    ensures opens { OnOk result ((k : List Entry) × (opened (home_of history.old) form (contents records.now) ≡ Some k) × IsMemoryOf history.new k) }
-    ensures refused { IfErr result (IsReplayFault (refused_at (home_of history.old) form records.now)) }
+    ensures opens { OnOk result ((k : List Entry) × (opened (home_of history.old) form (contents records) ≡ Some k) × IsMemoryOf history.new k) }
+    ensures refused { IfErr result (IsReplayFault (refused_at (home_of history.old) form records)) }
 {
-    let items = records.as_slice();
-    for record in items {
-        let going = take_record(history, form, record)?;
+    for record in records.into_vec() {
+        let place = record.place;
+        let taken = take_record(history, form, &record);
+        drop(record);
+        let going = taken?;
         if !going {
-            return Err(ReplayFault::Refused(record.place));
+            return Err(ReplayFault::Refused(place));
         }
     }
     Ok(())

@@ -1,13 +1,38 @@
 -- How many bytes the records of what is kept take, one after another.
-use Rattle.std.proofs.Common.{◌≡◌, ℕ, ◌+◌, ◌<◌, List, [], ◌∷◌, ◌++◌, length, take, drop, get_or, min, Bool, true, false, sym, ap, ◌∙◌, subst, arith, Option}
+use Rattle.std.proofs.Common.{◌≡◌, ℕ, ◌+◌, ◌<◌, ◌≤◌, List, [], ◌∷◌, ◌++◌, length, take, drop, get_or, min, Bool, true, false, sym, ap, ◌∙◌, subst, arith, Option}
 use Rattle.std.specs.Prelude.{if◌then◌else◌}
-use Rattle.std.proofs.lemmas.List.{length-take-le, take_more}
+use Rattle.std.proofs.lemmas.List.{drop_more, length-drop, length-take-le, take_more}
 use Rattle.std.proofs.lemmas.List.{take-append-drop}
 use Rattle.ocm_journal_image.specs.Layout.{AreRecords, blocks_size}
 use Rattle.ocm_history_records.specs.declared.kept.KeptRecord.{KeptRecord}
 use Rattle.ocm_history_records.specs.Kept.{IsTooLong, asked_size, is_tick_record, lean_asks, lean_text, lean_texts}
 use Rattle.ocm_history_records.proofs.Fields.{IsLength}
 use Rattle.ocm_history_records.proofs.Leaning.{lean_asks-append, with-one, with_record}
+
+-- ---- what is left to be read
+
+-- the next of some records, of which so many were read
+pub record Next (rs : List KeptRecord) (i : ℕ) (r : KeptRecord) (next : List KeptRecord) : Type 0 where
+  pub below : i < length rs
+  pub is : r ≡ get_or rs i r
+  pub left : next ≡ drop (i + 1) rs
+
+pub next-read : (rs left next : List KeptRecord) (i : ℕ) (r : KeptRecord) → left ≡ drop i rs → left ≡ r ∷ next → Next rs i r next
+next-read rs left next i r from is = record {
+  below = below;
+  is = ap (λ l. get_or l 0 r) split;
+  left = ap (λ l. drop 1 l) split;
+}
+  where
+    below : i < length rs
+    below = let all = length-drop i rs in let some = ap length (sym is ∙ from) in omega (arith, all, some)
+
+    split : r ∷ next ≡ get_or rs i r ∷ drop (i + 1) rs
+    split = sym is ∙ from ∙ drop_more rs i r below
+
+-- none is left
+pub all-read : (rs left : List KeptRecord) (i : ℕ) → left ≡ drop i rs → left ≡ [] → i ≤ length rs → i ≡ length rs
+all-read rs left i from none within = let all = length-drop i rs in let some = ap length (sym none ∙ from) in omega (arith, all, some)
 
 -- ---- one record more
 

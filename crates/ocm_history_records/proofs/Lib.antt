@@ -4,3 +4,4 @@ pub mod Growing
 pub mod Counting
 pub mod Drafting
 pub mod Asking
+pub mod Packing

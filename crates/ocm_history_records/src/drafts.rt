@@ -9,7 +9,8 @@ ghost use Rattle.ocm_law_sessions.specs.Written.{stamp};
 ghost use Rattle.ocm_history_records.specs.Drafts.{IsDraft};
 ghost use Rattle.ocm_history_records.specs.Kept.{is_tick_record, kept_at};
 
-use crate::kept::{KeptRecord, KeptRecords};
+use crate::kept::KeptRecord;
+use crate::lists::KeptRecords;
 use ocm_base::{NoMemory, and};
 use ocm_entry::Ask;
 use ocm_entry_bytes::{add_ask, encode};

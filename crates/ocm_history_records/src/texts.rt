@@ -4,16 +4,15 @@ ghost use Rattle.ocm_journal_image.specs.Layout.{AreRecords};
 ghost use Rattle.ocm_history_records.specs.Kept.{IsTooLong, is_tick_record, lean_text};
 
 use crate::faults::RecordFault;
-use crate::kept::KeptRecord;
-use ocm_base::{Bytes, List};
-use std::alloc::Global;
+use crate::views::KeptView;
+use ocm_base::Bytes;
+use ocm_journal_area::AreaRecords;
 
 /// Adds the record in form 2 of an ask, where this body still stands or none; that of a tick is passed over. `TooLong`
 /// says that no journal takes it. After a fault the texts are as before.
 pub fn add_asked(
-    alloc: Global,
-    texts: &mut List<Bytes>,
-    kept: &KeptRecord,
+    texts: &mut AreaRecords,
+    kept: &KeptView<'_>,
     standing: Option<&Bytes>,
 ) -> Result<(), RecordFault>
     ensures sizes { OnOk result (AreRecords texts.old → AreRecords texts.new) }
@@ -24,15 +23,14 @@ pub fn add_asked(
     if kept.is_tick() {
         return Ok(());
     }
-    add_text(alloc, texts, kept, standing)
+    add_text(texts, kept, standing)
 }
 
 /// Adds the record in form 2, where this body still stands or none. `TooLong` says that no journal takes it. After a
 /// fault the texts are as before.
 pub fn add_text(
-    alloc: Global,
-    texts: &mut List<Bytes>,
-    kept: &KeptRecord,
+    texts: &mut AreaRecords,
+    kept: &KeptView<'_>,
     standing: Option<&Bytes>,
 ) -> Result<(), RecordFault>
     ensures sizes { OnOk result (AreRecords texts.old → AreRecords texts.new) }
@@ -40,7 +38,6 @@ pub fn add_text(
     ensures full { result ≡ Err RecordFault.TooLong → IsTooLong (lean_text kept.now (option_copied standing.entry)) }
     ensures unchanged { OnErr result (texts.new ≡ texts.old) }
 {
-    let text = kept.text(alloc, standing)?;
-    texts.push(text)?;
+    kept.add_to(texts, standing)?;
     Ok(())
 }

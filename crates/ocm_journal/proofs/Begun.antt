@@ -4,14 +4,14 @@ use Rattle.std.specs.Prelude.{IsSome, length}
 use Rattle.ocm_disk.specs.declared.disk.Disk.{Ghosts}
 use Rattle.ocm_journal_image.specs.declared.blanks.Blank.{Blank}
 use Rattle.ocm_journal_image.specs.declared.readings.RawRecord.{RawRecord}
-use Rattle.ocm_journal_image.specs.Blank.{IsBlank, blank_of, made_form}
+use Rattle.ocm_journal_image.specs.Blank.{IsBlank, blank_of}
 use Rattle.ocm_journal_image.specs.Layout.{IsImage, contents}
 use Rattle.ocm_journal_image.specs.Reading.{header_of}
 use Rattle.ocm_journal_image.proofs.OneImage.{blank_is_none, one_image}
 use Rattle.ocm_journal.specs.declared.faults.OpenFault.{OpenFault}
 use Rattle.ocm_journal.specs.declared.journal.Journal.{Journal}
 use Rattle.ocm_journal.specs.Journals.{StandsFor, disk_of, first_is_live, form_of, area_of, selects_first}
-use Rattle.ocm_journal.specs.LiveAreas.{BeginsWith, HasLive, IsImageLive, LiveArea}
+use Rattle.ocm_journal.specs.LiveAreas.{BeginsWith, HasLive, LiveArea}
 use Rattle.ocm_journal.specs.Openings.{IsMadeAs, opening, records_below, unless_blank}
 
 -- an image is not blank

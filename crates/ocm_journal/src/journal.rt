@@ -2,7 +2,6 @@ ghost use Rattle.std.specs.Prelude.{◌≡◌, ◌<◌, ◌≤◌, ◌+◌};
 ghost use Rattle.ocm_journal_image.specs.Layout.{IsAreaSize};
 
 use ocm_disk::Disk;
-use std::alloc::Global;
 
 /// A journal on a disk: records, each of which is there whole after a crash, or not at all.
 pub struct Journal<D: Disk> {
@@ -13,7 +12,6 @@ pub struct Journal<D: Disk> {
     pub(crate) form: u8,
     pub(crate) gate: u64,
     pub(crate) stopped: bool,
-    pub(crate) alloc: Global,
     ghost selector_within: { (18 ≤ selector) × (selector ≤ 272) },
     ghost area_size: { IsAreaSize area },
     ghost starts: { (512 ≤ start) × (start ≤ 512 + area) },
@@ -31,7 +29,6 @@ impl<D: Disk + Drop> Drop for Journal<D> {
             form: _,
             gate: _,
             stopped: _,
-            alloc: _,
         } = self;
     }
 }
@@ -49,7 +46,6 @@ impl<D: Disk> Journal<D> {
             form: _,
             gate: _,
             stopped: _,
-            alloc: _,
         } = self;
         disk
     }

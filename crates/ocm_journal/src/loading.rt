@@ -210,7 +210,6 @@ impl<D: Disk> Journal<D> {
                     form,
                     gate,
                     stopped: false,
-                    alloc,
                 };
                 Ok((journal, records))
             }

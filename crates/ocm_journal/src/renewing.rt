@@ -1,15 +1,15 @@
 ghost use Rattle.std.specs.Prelude.{◌≡◌, ◌≢◌, ◌⊎◌, ◌<◌, ◌≤◌, ◌+◌, ◌↔◌, ℕ, List, OnOk, IsOk, IsErr, IfErr, IsErrOf, false, not};
 ghost use Rattle.ocm_disk.specs.Disk.{LeavesOnly};
-ghost use Rattle.ocm_journal_image.specs.Layout.{AreRecords, blocks_size};
+ghost use Rattle.ocm_journal_image.specs.Layout.{blocks_size};
 ghost use Rattle.ocm_journal.specs.AfterFaults.{AfterFault};
 ghost use Rattle.ocm_journal.specs.Renewals.{HasCount, stops};
 ghost use Rattle.ocm_journal.specs.Journals.{IsImageWith, IsOldOrNew, IsSelected, IsShut, IsStopped, disk_of, first_is_live, StandsFor};
 
 use crate::journal::Journal;
 use crate::steps::put_behind;
-use ocm_base::{Bytes, List, NoMemory};
+use ocm_base::NoMemory;
 use ocm_disk::Disk;
-use ocm_journal_image::{area_bytes, fits_area};
+use ocm_journal_area::AreaRecords;
 
 /// Why the records of a journal were not renewed.
 #[derive(Clone, Copy, Debug, PartialEq, Eq)]
@@ -51,11 +51,10 @@ fn other_area(start: u64, area: u64) -> (u64, u8)
 impl<D: Disk> Journal<D> {
     /// Puts these records, each of 1 to 2,097,152 bytes, in place of all that the journal holds. They are written to
     /// the other area in form 2, which is then made live. At `Ok` they are on the disk.
-    pub fn renew(&mut self, records: &List<Bytes>) -> Result<(), RenewFault>
-        requires sizes { AreRecords records.now }
+    pub fn renew(&mut self, records: AreaRecords) -> Result<(), RenewFault>
         requires goes { self.old.stopped ≡ false }
         ensures acknowledged { D.tells → (label : List ℕ) (before : List (List ℕ)) → StandsFor ⟦<D as Disk>⟧ label before self.old
-            → OnOk result (StandsFor ⟦<D as Disk>⟧ label records.now self.new) }
+            → OnOk result (StandsFor ⟦<D as Disk>⟧ label records self.new) }
 
         // The gate behind the records is closed by 00, and the selector is 01 or 02.
         ensures shut { D.tells → OnOk result (IsShut ⟦<D as Disk>⟧ self.new) }
@@ -63,9 +62,9 @@ impl<D: Disk> Journal<D> {
 
         // A crash at any moment of the call leaves an image of the old records or of the new ones.
         ensures any_moment { D.tells → (label : List ℕ) (before : List (List ℕ)) → StandsFor ⟦<D as Disk>⟧ label before self.old
-            → LeavesOnly D.moment D.left_since (disk_of self.old) (disk_of self.new) (IsOldOrNew label self.old.area self.old.form before records.now) }
-        ensures full { IsErrOf result RenewFault.Full → self.old.area < 2 + blocks_size records.now }
-        ensures not_full { self.old.area < 2 + blocks_size records.now → IsErrOf result RenewFault.Full }
+            → LeavesOnly D.moment D.left_since (disk_of self.old) (disk_of self.new) (IsOldOrNew label self.old.area self.old.form before records) }
+        ensures full { IsErrOf result RenewFault.Full → self.old.area < 2 + blocks_size records }
+        ensures not_full { self.old.area < 2 + blocks_size records → IsErrOf result RenewFault.Full }
         ensures unchanged { IsErrOf result RenewFault.Full → self.new ≡ self.old }
         ensures memory { D.tells → (label : List ℕ) (before : List (List ℕ)) → StandsFor ⟦<D as Disk>⟧ label before self.old
             → IsErrOf result RenewFault.NoMemory → StandsFor ⟦<D as Disk>⟧ label before self.new }
@@ -91,14 +90,14 @@ impl<D: Disk> Journal<D> {
         // area live, and so `ee` does.
         ensures after_fault { D.tells → (label : List ℕ) (before : List (List ℕ)) (left : ℕ) → StandsFor ⟦<D as Disk>⟧ label before self.old → IsStopped self.new
             → D.passes (disk_of self.old) left → D.burnt (disk_of self.old) left
-            → AfterFault ⟦<D as Disk>⟧ left (first_is_live self.old) (IsImageWith (first_is_live self.old) label self.old.area self.old.form before) (IsImageWith (not (first_is_live self.old)) label self.old.area 2 records.now) (disk_of self.new) }
+            → AfterFault ⟦<D as Disk>⟧ left (first_is_live self.old) (IsImageWith (first_is_live self.old) label self.old.area self.old.form before) (IsImageWith (not (first_is_live self.old)) label self.old.area 2 records) (disk_of self.new) }
     {
-        if !fits_area(records, self.area) {
+        if !records.fits(self.area) {
             return Err(RenewFault::Full);
         }
         let (other, byte) = other_area(self.start, self.area);
         let place = other.min(self.disk.len());
-        let text = area_bytes(self.alloc, (other - place) as usize, records)?;
+        let text = records.into_text((other - place) as usize)?;
         let end = place + text.len() as u64;
         self.disk.room(text.len() as u64)?;
         if put_behind(&mut self.disk, place, text.as_slice(), self.selector, byte).is_err() {

@@ -230,6 +230,7 @@ has-more (first ∷ newer) older x h = inr (has-more newer older x h)
 -- one message, which was told due
 tries-backed : (message : Numbered) (calls : List Entry) (added : List Exchange) (settled : Bool) (end : RoundEnd) (exchanges : List Exchange) (context : List Entry)
     → Tries message calls added settled end → WasDue context message → AreBacked exchanges context → AreBacked (added ++ exchanges) (calls ++ context)
+tries-backed message _ _ _ _ exchanges context rounds.waits due h = h
 tries-backed message _ _ _ _ exchanges context (rounds.unanswered added fault delivers) due h = backed-more added exchanges context h
 tries-backed message _ _ _ _ exchanges context (rounds.unsettled added answer delivers) due h = backed-more added exchanges context h
 tries-backed message _ _ _ _ exchanges context (rounds.was_settled added answer reply delivers) due h = (
@@ -296,7 +297,7 @@ behind-done limit delivers (Some pumped) old new behind =
 behind-done limit delivers None old new behind =
     record { calls = []; added = []; does = subst (λ (h : Hold _). Does old h [] []) (sym behind.1) (record { moved = moved_nothing old.pass; adds = added-none old.exchanges }); backs = λ exchanges context h. h }
 
--- these calls were made, with these exchanges, which stand behind those that the dial had, where it tells them
+-- these calls were made, with these exchanges, which stand behind those that the post had, where it tells them
 pub record Made {Terms : Type 0} (old new : Desk Terms) : Type 0 where
   pub calls : List Entry
   pub added : List Exchange
@@ -323,7 +324,7 @@ module _ {C Terms : Type 0} (sides : C → Sides) (config : Config) (limit : ℕ
         added = round.added ++ m.added;
         moved = moved_then old.pass visited.middle.pass new.pass (talk.deeds.calls ++ m.calls) round.calls (moved_then old.pass b.pass visited.middle.pass m.calls talk.deeds.calls m.moved talk.does.calls) round.does.moved;
         adds = λ exchanges told.
-            let waits : visited.middle.exchanges ≡ Some (m.added ++ exchanges) = visited.dial_waits ∙ m.adds exchanges told in
+            let waits : visited.middle.exchanges ≡ Some (m.added ++ exchanges) = visited.post_waits ∙ m.adds exchanges told in
             let adds : new.exchanges ≡ Some (round.added ++ (m.added ++ exchanges)) = round.does.adds ∙ ap (option_map (λ l. round.added ++ l)) waits in
             adds ∙ ap Some (sym (append_assoc round.added m.added exchanges));
         backed = round.backs m.added (talk.deeds.calls ++ m.calls) (backed-plain m.added talk.deeds.calls m.calls plain m.backed);

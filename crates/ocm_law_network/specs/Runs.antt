@@ -51,7 +51,7 @@ pub record HasRun {D : Type 0} (disk : Ghosts D) (host : List ℕ) (area : ℕ) 
   pub any_moment : disk.tells → disk.faithful loaded → LeavesOnly disk.moment disk.left_since before after (LeavesWithin disk host area before size base history)
 
 -- The calls of a history are those of these workers, each at its place; each settlement of a worker has exchanges of its own
--- among those that its dial made.
+-- among those that its post made.
 pub record HasWorked {C Terms : Type 0} (history : List Entry) (workers : ℕ) (old new : ℕ → Work C Terms) : Type 0 where
   pub all : List (List Call)
   pub shares : Shares history all (length history)

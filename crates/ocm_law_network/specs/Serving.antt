@@ -26,7 +26,7 @@ use Rattle.ocm_law_network.specs.Working.{AreBacked, WasDelivered}
 
 -- ---- what a history settles
 
--- a call is no settlement, or settles what an earlier one told due, by what was answered over some dial
+-- a call is no settlement, or settles what an earlier one told due, by what was answered over some post
 abbrev pub IsAnswered : List Entry → Entry → Type 0
 IsAnswered before e = (is_settlement e.ask ≡ false) ⊎ ((added : List Exchange) × WasDelivered added before e)
 
@@ -36,7 +36,7 @@ SettlesAnswers [] = Unit {0}
 SettlesAnswers (e ∷ before) = IsAnswered before e × SettlesAnswers before
 
 -- So it is of the one history of all workers, where they made as many calls as it has, and the calls of each are backed by
--- what its dial tells.
+-- what its post tells.
 abbrev pub HistoriesSettleAnswers : Type 0
 HistoriesSettleAnswers =
     (history : List Entry) (all : List (List Call)) (own : ℕ) → Shares history all own → own ≡ length history

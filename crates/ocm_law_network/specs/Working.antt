@@ -1,5 +1,5 @@
 -- How the calls of a running server came about. What a worker asks over its connections settles no message; what it settles
--- in its rounds of delivery was told due, and answered over its dial. Calls and exchanges stand newest first.
+-- in its rounds of delivery was told due, and answered over its post. Calls and exchanges stand newest first.
 use Rattle.std.specs.Prelude.{◌≡◌, ◌⊎◌, ℕ, List, [], ◌∷◌, ◌++◌, length, false, Option, Some, Ok}
 use mathlib.Core.Logic.{inl, inr}
 use Rattle.ocm_types.specs.declared.letters.Numbered.{Numbered}
@@ -89,11 +89,11 @@ abbrev pub AreBacked : List Exchange → List Entry → Type 0
 AreBacked exchanges [] = Unit {0}
 AreBacked exchanges (e ∷ before) = (how : (is_settlement e.ask ≡ false) ⊎ HasOwn exchanges before e) × AreBacked (left_for exchanges how) before
 
--- these calls are backed by exchanges that a dial made, where it tells them before and after
+-- these calls are backed by exchanges that a post made, where it tells them before and after
 abbrev pub IsBackedBy : Option (List Exchange) → Option (List Exchange) → List Call → Type 0
 IsBackedBy old new calls = (added : List Exchange) × AreBacked added (entries calls) × ((exchanges : List Exchange) → old ≡ Some exchanges → new ≡ Some (added ++ exchanges))
 
--- So are those of a worker, from its first call to its last, by its dial.
+-- So are those of a worker, from its first call to its last, by its post.
 abbrev pub WorkersAreBacked : (C Terms : Type 0) → Type 0
 WorkersAreBacked C Terms =
     (sides : C → Sides) (config : Config) (gate : Gate) (first : Known Terms) (draw : ChaCha) (old new : Work C Terms) (calls : List Call) (past : Past)

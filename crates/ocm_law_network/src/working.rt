@@ -13,7 +13,7 @@ pub fn deliveries_are_posts()
 {}
 
 /// Each call of a worker is no settlement, or settles a message that an earlier call of its own told due, by what was
-/// answered over its dial.
+/// answered over its post.
 pub fn workers_settle_what_was_answered<C, G>()
     ensures { WorkersAreBacked C G }
 {}
@@ -24,7 +24,7 @@ pub fn every_call_is_a_workers()
 {}
 
 /// So each call of the one history settles no message, or one that an earlier call told due, by what was answered over the
-/// dial of some worker.
+/// post of some worker.
 pub fn histories_settle_what_was_answered()
     ensures { HistoriesSettleAnswers }
 {}

@@ -13,7 +13,7 @@ ghost use Rattle.ocm_store.specs.Stores.{terms_of};
 
 use ocm_base::Clock;
 use ocm_disk::Disk;
-use ocm_pump::Dial;
+use ocm_pump::Post;
 use ocm_serve_options::Plan;
 use ocm_serve_store::{Followed, serve};
 use ocm_server::{Door, Served, Worker};
@@ -39,9 +39,10 @@ pub fn an_answer_is_on_the_disk<D: Disk, C: Conn>()
 
 /// By all that is told of a run by a plan, as of that of the program: the calls of its workers are those of a session, whose
 /// history is legal and outlives every crash, and each page that answers calls was noted with a moment since which a crash
-/// leaves these. Where the disk held some bytes alone when it was opened, and was read faithfully, these bytes opened to the
-/// list behind which the calls stand, and a crash at any moment of the run leaves what opens as they do, or what may follow at
-/// some place of the calls.
+/// leaves these. Where a worker's door and post tell, as those of the program do, these are the pages of all connections that
+/// the door gave, and the post's exchanges those of the rounds behind these and no other. Where the disk held some bytes alone
+/// when it was opened, and was read faithfully, these bytes opened to the list behind which the calls stand, and a crash at any
+/// moment of the run leaves what opens as they do, or what may follow at some place of the calls.
 pub fn served_runs_keep_what_is_promised<D: Disk, C: Conn>()
     ensures { ServedRunsKeep ⟦<D as Disk>⟧ C.sides }
 {}
@@ -53,7 +54,7 @@ pub fn served_runs_keep_what_is_promised<D: Disk, C: Conn>()
 pub fn serve_keeps_what_is_promised<
     D: Disk + Send,
     L: Door + Send,
-    N: Dial + Send,
+    N: Post + Send,
     K: Clock + Send,
     R: Threads + Wait + Sync,
 >(
@@ -69,7 +70,7 @@ where
     requires some { 0 < length workers.old }
     ensures kept { (calls own : ℕ) → HasServed result.0 calls own → (ran : Ran ⟦<D as Disk>⟧ plan.now (new_area served_disk_bytes) (2 ^ 63) disk result.1 calls own
         (λ config gate first past all. EachShift L.Conn.sides config draw_key workers.old workers.new
-        (λ w. work (L.told w.door) (L.faults w.door) (N.exchanges w.dial) (N.faults w.dial) (N.delivers w.dial) w.draw (K.given w.clock) w.pass w.end) gate first past all))
+        (λ w. work (L.told w.door) (L.faults w.door) (N.exchanges w.post) (N.faults w.post) (N.delivers w.post) w.draw (K.given w.clock) w.pass w.end) gate first past all))
         × (was : WasRun ⟦<D as Disk>⟧ plan.now.host (new_area served_disk_bytes) disk result.1 ran.served.first.base ran.served.service.history)
         × Keeps plan.now.host (record { area = was.size; base = ran.served.first.base; calls = ran.served.service.history; flight = None }) []
         × (D.tells → (i : ℕ) (d : _) (below : i < length workers.old) →

@@ -14,7 +14,7 @@ ghost use Rattle.ocm_law_serve_logs.specs.ServedLogs.{HasTrueLog};
 use ocm_base::Clock;
 use ocm_disk::Disk;
 use ocm_law_serve::running::an_answer_is_on_the_disk;
-use ocm_pump::Dial;
+use ocm_pump::Post;
 use ocm_serve_log::{LogSink, LoggedRun, LoggedStore, serve_logged};
 use ocm_serve_options::Plan;
 use ocm_server::{Door, Worker};
@@ -32,7 +32,7 @@ use std::thread::Threads;
 pub fn serve_logged_writes_what_is_true<
     D: Disk + Send,
     L: Door + Send,
-    N: Dial + Send,
+    N: Post + Send,
     C: Clock + Send,
     K: LogSink + Send,
     R: Threads + Wait + Sync,
@@ -51,7 +51,7 @@ where
     requires fresh { IfSome (K.taken sink) (λ held. held ≡ []) }
     ensures { (calls own : ℕ) → HasServed result.served calls own → (run : Ran ⟦<D as Disk>⟧ plan.now (new_area served_disk_bytes) (2 ^ 63) disk result.disk calls own
         (λ config gate first past all. EachShift L.Conn.sides config draw_key workers.old workers.new
-        (λ w. work (L.told w.door) (L.faults w.door) (N.exchanges w.dial) (N.faults w.dial) (N.delivers w.dial) w.draw (C.given w.clock) w.pass w.end) gate first past all))
+        (λ w. work (L.told w.door) (L.faults w.door) (N.exchanges w.post) (N.faults w.post) (N.delivers w.post) w.draw (C.given w.clock) w.pass w.end) gate first past all))
         × IsLogOf (K.taken result.sink) (K.faults result.sink) result.left_out result.out_of_memory plan.now.host run.served.first.base run.served.service.history
         × HasTrueLog ⟦<D as Disk>⟧ plan.now.host result.disk (terms_of run.store) run.served.first.base run.served.service.history (K.taken result.sink) result.left_out
         × (D.tells → (i : ℕ) (d : _) (below : i < length workers.old) →

@@ -1,2 +1,4 @@
 pub mod Behind
+pub mod Crossing
+pub mod Exchanging
 pub mod Sending

@@ -1,5 +1,5 @@
 -- What is sent on a connection whose line takes all, or tells how much.
-use Rattle.std.proofs.Common.{◌≡◌, ℕ, zero, suc, ◌-◌, ◌≤◌, List, [], ◌∷◌, ◌++◌, length, take, drop, Option, Some, None, Result, Ok, Err, refl, sym, ap, ◌∙◌, append-nil, arith}
+use Rattle.std.proofs.Common.{◌≡◌, ℕ, zero, suc, ◌-◌, ◌≤◌, List, [], ◌∷◌, ◌++◌, length, take, drop, Some, Ok, Err, refl, sym, ap, arith}
 use Rattle.std.proofs.lemmas.List.{take-append-drop}
 use Rattle.ocm_base.specs.Outside.{Rose}
 use Rattle.ocm_server_connections.specs.Sides.{Noted, Sides, Notes, Sends}

@@ -1,1 +1,2 @@
 pub mod Conns
+pub mod Dials

@@ -1,5 +1,6 @@
-ghost use Rattle.std.specs.Prelude.{◌≡◌, None};
+ghost use Rattle.std.specs.Prelude.{◌≡◌, Some};
 
+use crate::books::Book;
 use crate::conns::StreamConn;
 use ocm_base::Failed;
 use ocm_net_exchanges::Delivering;
@@ -9,13 +10,47 @@ use ocm_server_connections::Ended;
 use std::sync::Wait;
 use std::time;
 
-/// One worker's door, of either kind. It tells nothing, and no fault of one connection is its own.
+/// Where a worker's connections come from.
 #[derive(Drop)]
-pub enum NetDoor<'a, R: Wait + time::Clock> {
-    /// Gives a connection once a whole message of it is here.
+enum Gives<'a, R: Wait + time::Clock> {
     Serving(Serving<'a, R>),
-    /// Gives an empty connection where something may be due to other servers, so that a round of delivery follows.
     Delivering(Delivering<'a, R>),
+}
+
+/// One worker's door, of either kind. It tells the connections that it gave and those that came back. No fault of one
+/// connection is its own.
+#[derive(Drop)]
+pub struct NetDoor<'a, R: Wait + time::Clock> {
+    gives: Gives<'a, R>,
+    book: Book<StreamConn<'a, R>>,
+}
+
+impl<'a, R: Wait + time::Clock> NetDoor<'a, R> {
+    /// Gives a connection once a whole message of it is here.
+    pub fn serving(serving: Serving<'a, R>) -> NetDoor<'a, R> {
+        NetDoor {
+            gives: Gives::Serving(serving),
+            book: Book::new(),
+        }
+    }
+
+    /// Gives an empty connection where something may be due to other servers, so that a round of delivery follows.
+    pub fn delivering(delivering: Delivering<'a, R>) -> NetDoor<'a, R> {
+        NetDoor {
+            gives: Gives::Delivering(delivering),
+            book: Book::new(),
+        }
+    }
+
+    /// The next connection.
+    fn take_next(&mut self) -> Option<StreamConn<'a, R>>
+        ensures { self.new.book ≡ self.old.book }
+    {
+        match &mut self.gives {
+            Gives::Serving(serving) => serving.give().map(StreamConn::new),
+            Gives::Delivering(delivering) => round_of(delivering.next()),
+        }
+    }
 }
 
 /// Takes a connection back after its service.
@@ -49,21 +84,28 @@ fn round_of<'a, R: time::Clock>(goes_on: bool) -> Option<StreamConn<'a, R>> {
 impl<'a, R: Wait + time::Clock> Door for NetDoor<'a, R> {
     type Conn = StreamConn<'a, R>;
 
-    ghost told = { λ _. None };
+    ghost told = { λ d. Some d.book };
 
     ghost faults = { λ _. 0 };
 
     fn next(&mut self) -> Result<Option<StreamConn<'a, R>>, Failed> {
-        match self {
-            NetDoor::Serving(serving) => Ok(serving.give().map(StreamConn::new)),
-            NetDoor::Delivering(delivering) => Ok(round_of(delivering.next())),
+        match self.take_next() {
+            Some(conn) => {
+                self.book.give(&conn);
+                Ok(Some(conn))
+            }
+            None => {
+                self.book.end();
+                Ok(None)
+            }
         }
     }
 
     fn done(&mut self, conn: StreamConn<'a, R>, ended: Ended) {
-        match self {
-            NetDoor::Serving(serving) => take_back(serving, conn, ended),
-            NetDoor::Delivering(_) => drop(conn),
+        let conn = self.book.take_back(conn, ended);
+        match &mut self.gives {
+            Gives::Serving(serving) => take_back(serving, conn, ended),
+            Gives::Delivering(_) => drop(conn),
         }
     }
 }

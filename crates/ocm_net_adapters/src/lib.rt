@@ -4,10 +4,13 @@
 //! and what was sent.
 #![tactic(auto)]
 
+mod books;
 mod conns;
+mod dial_books;
 mod dials;
 mod doors;
 
 pub use conns::StreamConn;
 pub use dials::{ClientDial, TcpDial};
 pub use doors::NetDoor;
+pub use ocm_net_flights::{Peers, is_local_host};

@@ -3,7 +3,7 @@
 use crate::keeps::asks_document;
 use crate::seats::Seat;
 use ocm_base::{Bytes, and};
-use ocm_net_flights::{Addresses, ExchangeFault, Flight, Limits, Lookup};
+use ocm_net_flights::{Addresses, ExchangeFault, Flight, Limits, Lookup, Peers};
 use ocm_net_hosts::{Noted, Standing};
 use std::alloc::Global;
 
@@ -33,16 +33,19 @@ pub struct Asked<'a> {
     pub asks_document: bool,
     /// What is known of the host.
     pub noted: Noted,
+    /// Which peers are asked.
+    pub peers: Peers,
 }
 
 impl<'a> Asked<'a> {
-    /// One with a host of which this is known.
-    pub fn new(host: &'a str, request: &'a Bytes, noted: Noted) -> Asked<'a> {
+    /// One with a host of which this is known, if it is such a peer.
+    pub fn new(host: &'a str, request: &'a Bytes, noted: Noted, peers: Peers) -> Asked<'a> {
         Asked {
             host,
             request,
             asks_document: asks_document(request.as_slice()),
             noted,
+            peers,
         }
     }
 
@@ -66,6 +69,7 @@ impl<'a> Asked<'a> {
                 UNKNOWN_TIME
             },
             is_by_rate: false,
+            peers: self.peers,
         }
     }
 

@@ -6,7 +6,7 @@ use crate::tables::{MOST_NOTES, Table};
 use libc::net::EPOLLIN;
 use ocm_base::Bytes;
 use ocm_limits::MOST_EXCHANGE_BYTES;
-use ocm_net_flights::{ExchangeFault, Lookups};
+use ocm_net_flights::{ExchangeFault, Lookups, Peers};
 use ocm_net_waits::{Bell, Set, millis};
 use os::EpollEvent;
 use std::alloc::Global;
@@ -61,14 +61,19 @@ struct Look {
 }
 
 impl<'a, R: Wait + time::Clock> Exchanges<'a, R> {
-    /// No exchanges. A round is due, and another whenever the bell is rung.
-    pub fn new(rt: &'a R, alloc: Global, bell: Arc<Bell, Global>) -> io::Result<Exchanges<'a, R>>
+    /// No exchanges, to come with these peers alone. A round is due, and another whenever the bell is rung.
+    pub fn new(
+        rt: &'a R,
+        alloc: Global,
+        bell: Arc<Bell, Global>,
+        peers: Peers,
+    ) -> io::Result<Exchanges<'a, R>>
     where
         R: Net,
     {
         let set = Set::new(rt)?;
         let running = Arc::new(alloc, AtomicU64::new(0))?;
-        let table = Table::new(alloc, Lookups::new(running))?;
+        let table = Table::new(alloc, Lookups::new(running), peers)?;
         set.add(bell.fd(), EPOLLIN, BELL);
         Ok(Exchanges {
             rt,

@@ -10,6 +10,7 @@ mod exchanges;
 mod keeps;
 mod names;
 mod seats;
+mod settled;
 mod tables;
 
 pub use deliveries::Delivering;

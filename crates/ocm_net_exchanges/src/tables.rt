@@ -7,8 +7,9 @@ use crate::asked::{Asked, recipient};
 use crate::keeps::{Keeps, asks_document, kept_until};
 use crate::names::{Names, most_lookups};
 use crate::seats::{LEAST_TIME, Room, Seat, Seats};
+use crate::settled::{Settled, mark_of};
 use ocm_base::{Bytes, and};
-use ocm_net_flights::{Addresses, ExchangeFault, Lookup, Lookups, Step};
+use ocm_net_flights::{Addresses, ExchangeFault, Lookup, Lookups, Peers, Step};
 use ocm_net_hosts::{HostNote, Hosts, Noted, Orders, Standing, Start, Turns};
 use ocm_net_waits::Set;
 use std::alloc::{AllocError, Global};
@@ -55,6 +56,12 @@ pub struct Table {
     naming: Orders,
     /// When rounds are due.
     pub turns: Turns,
+    /// Which peers are asked.
+    peers: Peers,
+    /// The mark of the last post that got a reply.
+    answered: Option<u64>,
+    /// The messages that were told to be settled of late.
+    settled: Settled,
 }
 
 impl Drop for Table {
@@ -74,13 +81,16 @@ impl Drop for Table {
             placing: _,
             naming: _,
             turns: _,
+            peers: _,
+            answered: _,
+            settled: _,
         } = self;
     }
 }
 
 impl Table {
-    /// A table of nothing.
-    pub fn new(alloc: Global, lookups: Lookups) -> Result<Table, AllocError> {
+    /// A table of nothing, for exchanges with these peers.
+    pub fn new(alloc: Global, lookups: Lookups, peers: Peers) -> Result<Table, AllocError> {
         let piece = Vec::from_elem(alloc, 0u8, PIECE)?;
         let (seats, keeps) = and(Seats::new(alloc)?, Keeps::new(alloc))?;
         Ok(Table {
@@ -98,6 +108,9 @@ impl Table {
             placing: Orders::new(),
             naming: Orders::new(),
             turns: Turns::new(),
+            peers,
+            answered: None,
+            settled: Settled::new(alloc),
         })
     }
 
@@ -118,6 +131,7 @@ impl Table {
         self.has_replied = found.is_some();
         if self.has_replied {
             self.replier = String::from_str(alloc, host).ok();
+            self.answered = (!self.is_document).then_some(mark_of(host, request));
         }
         Ok(found)
     }
@@ -141,10 +155,13 @@ impl Table {
         now: u64,
     ) -> Result<Option<usize>, ExchangeFault> {
         let noted = self.hosts.waited_for(host, self.turns.round(), now);
+        if self.waits_settled(host, request.as_slice(), now) {
+            return Ok(None);
+        }
         let Some(turn) = self.turn_of_message(host, now) else {
             return Ok(None);
         };
-        let asked = Asked::new(host, request, noted);
+        let asked = Asked::new(host, request, noted, self.peers);
         if !self.may_begin(asked, now) {
             self.wait_at(asked, now);
             return Ok(None);
@@ -167,6 +184,21 @@ impl Table {
                 self.turns.call_at(now.saturating_add(NO_ROOM));
                 Err(fault)
             }
+        }
+    }
+
+    /// Whether a post is not to be made now, since its message was told to be settled of late and the server could not write
+    /// that. A round follows when it may be made again.
+    fn waits_settled(&mut self, host: &str, request: &[u8], now: u64) -> bool {
+        if asks_document(request) {
+            return false;
+        }
+        match self.settled.until(mark_of(host, request), now) {
+            Some(until) => {
+                self.turns.call_at(until);
+                true
+            }
+            None => false,
         }
     }
 
@@ -409,9 +441,13 @@ impl Table {
                 self.hosts.end(alloc, host.as_str());
                 self.rest(alloc, host.as_str(), now);
             }
-            Err(ExchangeFault::Failed) => {
+            Err(fault) => {
                 self.hosts.end(alloc, host.as_str());
                 self.names.forget(host.as_str());
+                if fault == ExchangeFault::Refused {
+                    let note = self.hosts.refuse(alloc, host.as_str());
+                    self.note(note);
+                }
                 self.fail(alloc, host.as_str(), false, now);
                 self.hosts.miss(host.as_str(), to.as_str(), turn, now);
             }
@@ -469,7 +505,11 @@ impl Table {
     pub fn came(&mut self, alloc: Global, host: &str, settles: bool, now: u64) {
         self.turns.count();
         let replier = self.replier.take();
+        let answered = self.answered.take();
         if settles {
+            if let Some(mark) = answered {
+                self.settled.note(mark, now);
+            }
             self.turns.call();
             self.succeed(alloc, host, now);
             if let Some(replier) = &replier {

@@ -1,5 +1,8 @@
 //! Hosts by name and port, and their addresses.
+ghost use Rattle.std.specs.Prelude.{◌≡◌, true, IfSome};
+ghost use Rattle.ocm_net_flights.specs.Peers.{allows};
 
+use crate::peers::Peers;
 use libc::net::{AF_INET, AF_INET6, SOCK_CLOEXEC, SOCK_NONBLOCK, SOCK_STREAM, connect, socket};
 use ocm_net_waits::owned;
 use os::RawAddr;
@@ -85,12 +88,14 @@ fn socket_for(address: &RawAddr) -> Option<TcpStream> {
     owned(fd).ok().map(TcpStream::from)
 }
 
-/// Begins to connect to an address. None where that fails at once.
-pub fn begin_connect(address: &RawAddr) -> Option<TcpStream> {
-    let stream = socket_for(address)?;
-    if address.len > 128 {
+/// Begins to connect to an address. None where that fails at once, and where these peers may not have it.
+pub fn begin_connect(address: &RawAddr, peers: Peers) -> Option<TcpStream>
+    ensures { IfSome result (λ _. allows peers address.now.bytes ≡ true) }
+{
+    if address.len > 128 || !peers.allows(address) {
         return None;
     }
+    let stream = socket_for(address)?;
     let begun = unsafe { connect(stream.as_raw_fd(), &address.bytes, address.len) };
     if begun < 0 && os::errno() != libc::EINPROGRESS {
         return None;

@@ -1,8 +1,16 @@
 //! One request on a connection of its own, which waits for nothing.
-ghost use Rattle.std.specs.Prelude.{◌≤◌, length};
+ghost use Rattle.std.specs.Prelude.{◌≡◌, ◌≤◌, true, IfOk, IfSome, length};
+ghost use Rattle.ocm_limits.specs.Limits.{most_exchange_bytes};
+ghost use Rattle.ocm_net_flights.specs.Interims.{IsBehind};
+ghost use Rattle.ocm_net_flights.specs.Peers.{allows};
 
 use crate::addresses::begin_connect;
+use crate::faults::ExchangeFault;
+use crate::interims::interim_front;
+use crate::peers::Peers;
 use crate::replies::ReplyLook;
+use ocm_base::{Bytes, NoMemory};
+use ocm_limits::MOST_EXCHANGE_BYTES;
 use ocm_net_waits::{read_now, write_now};
 use os::RawAddr;
 use std::alloc::Global;
@@ -46,9 +54,11 @@ impl Drop for Course {
 }
 
 impl Course {
-    /// Begins to connect to an address. None where that fails at once.
-    pub fn begin(alloc: Global, address: &RawAddr) -> Option<Course> {
-        let stream = begin_connect(address)?;
+    /// Begins to connect to an address. None where that fails at once, and where these peers may not have it.
+    pub fn begin(alloc: Global, address: &RawAddr, peers: Peers) -> Option<Course>
+        ensures { IfSome result (λ _. allows peers address.now.bytes ≡ true) }
+    {
+        let stream = begin_connect(address, peers)?;
         Some(Course {
             stream,
             is_connected: false,
@@ -73,8 +83,10 @@ impl Course {
         (self.sent as u64).saturating_add(self.reply.len() as u64)
     }
 
-    /// What came back.
-    pub fn into_reply(self) -> Vec<u8> {
+    /// What came back, interim replies among it.
+    fn into_came(self) -> Vec<u8>
+        ensures { result ≡ self.reply }
+    {
         let Course {
             stream: _,
             is_connected: _,
@@ -83,6 +95,22 @@ impl Course {
             look: _,
         } = self;
         reply
+    }
+
+    /// The reply of an exchange that ended, where it is whole: what came behind interim replies (RFC 9110 section 15.2). Else
+    /// this fault, or that there was no memory.
+    pub fn into_reply(self, step: Step, fault: ExchangeFault) -> Result<Bytes, ExchangeFault>
+        ensures within { IfOk result (λ reply. length reply ≤ most_exchange_bytes) }
+        ensures behind { IfOk result (λ reply. IsBehind self.reply.items reply) }
+    {
+        let came = self.into_came();
+        if step == Step::Whole && came.len() <= MOST_EXCHANGE_BYTES {
+            let reply = behind_interims(came)?;
+            Ok(reply)
+        } else {
+            drop(came);
+            Err(fault_of(step, fault))
+        }
     }
 
     /// Moves what can be moved now. A reply of more than `most` bytes fails.
@@ -139,5 +167,28 @@ impl Course {
         } else {
             Step::Waits
         }
+    }
+}
+
+/// What stands behind interim replies in the bytes that came back.
+fn behind_interims(came: Vec<u8>) -> Result<Bytes, NoMemory>
+    ensures within { IfOk result (λ reply. length reply ≤ length came.items) }
+    ensures behind { IfOk result (λ reply. IsBehind came.items reply) }
+{
+    let front = interim_front(came.as_slice());
+    if front == 0 {
+        return Ok(Bytes::from_vec(came));
+    }
+    let reply = Bytes::of(*came.allocator(), &came[front..]);
+    drop(came);
+    reply
+}
+
+/// Why an exchange gave no reply that ended so: this fault, or that there was no memory.
+pub fn fault_of(step: Step, fault: ExchangeFault) -> ExchangeFault {
+    if step == Step::NoMemory {
+        ExchangeFault::NoMemory
+    } else {
+        fault
     }
 }

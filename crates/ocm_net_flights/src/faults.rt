@@ -6,6 +6,8 @@ use std::alloc::AllocError;
 pub enum ExchangeFault {
     /// The peer cannot be reached, is too slow, sends too much, or is not asked now; or its reply is still awaited.
     Failed,
+    /// An address of the peer is none that a peer may have, and no other gave a reply.
+    Refused,
     /// There was no memory.
     NoMemory,
 }

@@ -3,12 +3,12 @@ ghost use Rattle.std.specs.Prelude.{◌≤◌, IfOk, length};
 ghost use Rattle.ocm_limits.specs.Limits.{most_exchange_bytes};
 
 use crate::addresses::{Addresses, MOST_ADDRESSES};
-use crate::courses::{Course, Step};
+use crate::courses::{Course, Step, fault_of};
 use crate::faults::ExchangeFault;
 use crate::lookups::Lookup;
+use crate::peers::Peers;
 use libc::net::{EPOLLET, EPOLLIN, EPOLLOUT, EPOLLRDHUP};
 use ocm_base::Bytes;
-use ocm_limits::MOST_EXCHANGE_BYTES;
 use ocm_net_waits::Set;
 use std::alloc::Global;
 
@@ -24,6 +24,8 @@ pub struct Limits {
     pub whole: u64,
     /// Whether it has a millisecond more for each four bytes that moved.
     pub is_by_rate: bool,
+    /// Which peers are asked.
+    pub peers: Peers,
 }
 
 /// An exchange that is under way.
@@ -38,6 +40,8 @@ pub struct Flight {
     addresses: Addresses,
     /// The place of the next address.
     next: usize,
+    /// Whether an address was passed over that a peer may not have.
+    is_refused: bool,
     course: Option<Course>,
 }
 
@@ -51,6 +55,7 @@ impl Drop for Flight {
             lookup: _,
             addresses: _,
             next: _,
+            is_refused: _,
             course: _,
         } = self;
     }
@@ -73,6 +78,7 @@ impl Flight {
             lookup,
             addresses,
             next: 0,
+            is_refused: false,
             course: None,
         }
     }
@@ -110,7 +116,8 @@ impl Flight {
                 return Step::Failed;
             };
             self.next = self.next.saturating_add(1);
-            if let Some(course) = Course::begin(alloc, address) {
+            self.is_refused = self.is_refused || !self.limits.peers.allows(address);
+            if let Some(course) = Course::begin(alloc, address, self.limits.peers) {
                 let events = EPOLLIN | EPOLLOUT | EPOLLRDHUP | EPOLLET;
                 if set.add(course.fd(), events, token) {
                     self.course = Some(course);
@@ -194,8 +201,8 @@ impl Flight {
         self.lookup.take()
     }
 
-    /// The request, and the connection that it came to.
-    fn into_parts(self) -> (Bytes, Option<Course>) {
+    /// The request, the connection that it came to, and why there is no reply where it failed.
+    fn into_parts(self) -> (Bytes, Option<Course>, ExchangeFault) {
         let Flight {
             request,
             limits: _,
@@ -204,35 +211,26 @@ impl Flight {
             lookup: _,
             addresses: _,
             next: _,
+            is_refused,
             course,
         } = self;
-        (request, course)
+        let fault = if is_refused {
+            ExchangeFault::Refused
+        } else {
+            ExchangeFault::Failed
+        };
+        (request, course, fault)
     }
 
-    /// The request of an exchange that ended, and its reply, where it is whole.
+    /// The request of an exchange that ended, and its reply, where it is whole: what came behind interim replies.
     pub fn into_ended(self, step: Step) -> (Bytes, Result<Bytes, ExchangeFault>)
         ensures { IfOk result.1 (λ reply. length reply ≤ most_exchange_bytes) }
     {
-        let (request, course) = self.into_parts();
-        (request, reply_in(course, step))
-    }
-}
-
-/// The reply of an exchange that ended, where it is whole.
-fn reply_in(course: Option<Course>, step: Step) -> Result<Bytes, ExchangeFault>
-    ensures { IfOk result (λ reply. length reply ≤ most_exchange_bytes) }
-{
-    if step == Step::NoMemory {
-        drop(course);
-        return Err(ExchangeFault::NoMemory);
-    }
-    let Some(course) = course else {
-        return Err(ExchangeFault::Failed);
-    };
-    let reply = course.into_reply();
-    if step == Step::Whole && reply.len() <= MOST_EXCHANGE_BYTES {
-        Ok(Bytes::from_vec(reply))
-    } else {
-        Err(ExchangeFault::Failed)
+        let (request, course, fault) = self.into_parts();
+        let reply = match course {
+            Some(course) => course.into_reply(step, fault),
+            None => Err(fault_of(step, fault)),
+        };
+        (request, reply)
     }
 }

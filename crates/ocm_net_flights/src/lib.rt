@@ -9,8 +9,10 @@ mod addresses;
 mod courses;
 mod faults;
 mod flights;
+mod interims;
 mod lone;
 mod lookups;
+mod peers;
 mod replies;
 
 pub use addresses::{Addresses, is_literal, name_and_port};
@@ -19,3 +21,4 @@ pub use faults::ExchangeFault;
 pub use flights::{Flight, Limits};
 pub use lone::exchange_alone;
 pub use lookups::{Lookup, Lookups};
+pub use peers::{Peers, is_local_host};

@@ -6,6 +6,7 @@ use crate::addresses::{Addresses, name_and_port};
 use crate::courses::Step;
 use crate::faults::ExchangeFault;
 use crate::flights::{Flight, Limits};
+use crate::peers::Peers;
 use ocm_base::Bytes;
 use ocm_limits::MOST_EXCHANGE_BYTES;
 use ocm_net_waits::{Set, millis};
@@ -15,12 +16,8 @@ use std::net::Net;
 use std::sync::Wait;
 use std::time;
 
-/// How far such an exchange may go: 33,619,968 bytes, in 5.5 s and a millisecond for each four bytes that moved.
-const LIMITS: Limits = Limits {
-    most: MOST_EXCHANGE_BYTES,
-    whole: 5_500,
-    is_by_rate: true,
-};
+/// How long such an exchange may take, in milliseconds, beside a millisecond for each four bytes that moved.
+const WHOLE: u64 = 5_500;
 
 /// How many bytes one read takes.
 const PIECE: usize = 65_536;
@@ -28,13 +25,28 @@ const PIECE: usize = 65_536;
 /// The token of its descriptors.
 const TOKEN: u64 = 0;
 
+impl Limits {
+    /// Those of an exchange that nothing else waits for: 33,619,968 bytes, in 5.5 s and a millisecond for each four bytes that
+    /// moved.
+    pub fn alone(peers: Peers) -> Limits {
+        Limits {
+            most: MOST_EXCHANGE_BYTES,
+            whole: WHOLE,
+            is_by_rate: true,
+            peers,
+        }
+    }
+}
+
 /// Sends a request to a host on a connection of its own, and waits for the reply: until it is whole by its length or its
-/// chunks, or the peer closes. It has at most 33,619,968 bytes. A host that names no port has port 80.
+/// chunks, or the peer closes. Interim replies ahead of it are passed over (RFC 9110 section 15.2). A host that names no port
+/// has port 80.
 pub fn exchange_alone<R: Wait + time::Clock + Net>(
     rt: &R,
     alloc: Global,
     host: &str,
     request: &Bytes,
+    limits: Limits,
 ) -> Result<Bytes, ExchangeFault>
     ensures { IfOk result (λ reply. length reply ≤ most_exchange_bytes) }
 {
@@ -43,7 +55,7 @@ pub fn exchange_alone<R: Wait + time::Clock + Net>(
         drop(piece);
         return Err(ExchangeFault::Failed);
     };
-    let reply = driven(rt, alloc, &set, host, request, &mut piece);
+    let reply = driven(rt, alloc, &set, host, request, limits, &mut piece);
     drop(set);
     drop(piece);
     reply
@@ -56,6 +68,7 @@ fn driven<R: Wait + time::Clock>(
     set: &Set,
     host: &str,
     request: &Bytes,
+    limits: Limits,
     piece: &mut [u8],
 ) -> Result<Bytes, ExchangeFault>
     ensures { IfOk result (λ reply. length reply ≤ most_exchange_bytes) }
@@ -65,7 +78,7 @@ fn driven<R: Wait + time::Clock>(
     };
     let now = millis(rt);
     let addresses = Addresses::look_up(name, port);
-    let mut flight = Flight::new(request.copy()?, LIMITS, now, None, addresses);
+    let mut flight = Flight::new(request.copy()?, limits, now, None, addresses);
     let begun = flight.begin(alloc, set, TOKEN, now);
     let ended = drive(rt, alloc, set, &mut flight, begun, piece);
     let (request, reply) = flight.into_ended(ended);

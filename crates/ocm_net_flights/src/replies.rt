@@ -2,12 +2,13 @@
 //! functions of `ocm_http_heads`. A wrong answer would cost time and no meaning: a reply that is taken too early is cut to the
 //! reader, and one that is awaited for too long ends with the peer's bytes or with its time.
 
+use crate::interims::interim_at;
 use ocm_base::NoMemory;
 use ocm_http_heads::{
     ChunkLine, Found, Head, Length, Look as Search, blanks, length_of_reply, read_chunk_line,
     read_reply,
 };
-use ocm_limits::MOST_REPLY_BYTES;
+use ocm_limits::{MOST_HEAD_BYTES, MOST_REPLY_BYTES};
 use std::alloc::Global;
 
 /// How many bytes a chunk line has at most, its CR LF among them.
@@ -38,6 +39,8 @@ pub struct ReplyLook {
     part: Part,
     /// Where that part begins, which may lie behind the bytes that are here.
     place: usize,
+    /// Where the reply begins, behind interim replies.
+    front: usize,
 }
 
 /// How the end of the body is known behind the head at the front. None where no whole head is there, or the reply is
@@ -63,6 +66,7 @@ impl ReplyLook {
         ReplyLook {
             part: Part::Head(Search::of_head()),
             place: 0,
+            front: 0,
         }
     }
 
@@ -112,13 +116,29 @@ impl ReplyLook {
         true
     }
 
-    /// Ends the head, of whose rest there are so many bytes, and passes over a body that has a length.
+    /// Ends the head, of whose rest there are so many bytes. Another one follows an interim reply. Else it passes over a body
+    /// that has a length.
     fn end_head(&mut self, alloc: Global, len: usize, bytes: &[u8]) {
-        match length_at(alloc, bytes) {
+        let reply = bytes.get(self.front..).unwrap_or_default();
+        if interim_at(reply).is_some() {
+            self.pass_interim(len);
+            return;
+        }
+        match length_at(alloc, reply) {
             Ok(Some(Length::Sized(size))) => self.go(len.saturating_add(size as usize), Part::End),
             Ok(Some(Length::Chunked)) => self.go(len, Part::Chunk),
             Ok(Some(Length::ToEnd)) => self.part = Part::ToEnd,
             Ok(None) | Err(_) => self.part = Part::Fault,
+        }
+    }
+
+    /// Passes over an interim reply, of whose head's rest there are so many bytes. All of them together have no more bytes than
+    /// a head.
+    fn pass_interim(&mut self, len: usize) {
+        self.go(len, Part::Head(Search::of_head()));
+        self.front = self.place;
+        if self.front > MOST_HEAD_BYTES {
+            self.part = Part::Fault;
         }
     }
 

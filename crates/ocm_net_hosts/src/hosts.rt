@@ -286,7 +286,20 @@ impl Hosts {
         let is_news = noted.fail(is_useless, now);
         self.put(alloc, host, noted);
         if is_news {
-            HostNote::of(alloc, host, noted.waiting(), false)
+            HostNote::of(alloc, host, noted.waiting(), HostNews::Failing)
+        } else {
+            None
+        }
+    }
+
+    /// Notes that a host was not asked for a message, since no peer may have its address. Gives what is to be told of it, if
+    /// anything.
+    pub fn refuse(&mut self, alloc: Global, host: &str) -> Option<HostNote> {
+        let mut noted = self.at(host);
+        let is_news = noted.refuse();
+        self.put(alloc, host, noted);
+        if is_news {
+            HostNote::of(alloc, host, noted.waiting().max(1), HostNews::Refused)
         } else {
             None
         }
@@ -313,11 +326,22 @@ impl Hosts {
     fn succeed(&mut self, alloc: Global, host: &str) -> Option<HostNote> {
         let noted = self.noted.get_mut(host)?;
         if noted.succeed() {
-            HostNote::of(alloc, host, noted.waiting(), true)
+            HostNote::of(alloc, host, noted.waiting(), HostNews::Reached)
         } else {
             None
         }
     }
+}
+
+/// What is new of a host.
+#[derive(Clone, Copy)]
+enum HostNews {
+    /// Nothing can be delivered to it.
+    Failing,
+    /// Nothing is delivered to it, since no peer may have its address.
+    Refused,
+    /// It is reached again.
+    Reached,
 }
 
 /// What an administrator is told of a host: that nothing can be delivered to it, or that it is reached again. Its text is one
@@ -326,7 +350,7 @@ pub struct HostNote {
     host: String,
     /// How many messages wait for it.
     messages: u32,
-    is_reached: bool,
+    news: HostNews,
 }
 
 impl Drop for HostNote {
@@ -334,19 +358,19 @@ impl Drop for HostNote {
         let HostNote {
             host: _,
             messages: _,
-            is_reached: _,
+            news: _,
         } = self;
     }
 }
 
 impl HostNote {
     /// A note of a host, where there is memory for it.
-    fn of(alloc: Global, host: &str, messages: u32, is_reached: bool) -> Option<HostNote> {
+    fn of(alloc: Global, host: &str, messages: u32, news: HostNews) -> Option<HostNote> {
         let host = String::from_str(alloc, host).ok()?;
         Some(HostNote {
             host,
             messages,
-            is_reached,
+            news,
         })
     }
 }
@@ -355,13 +379,16 @@ impl fmt::Display for HostNote {
     fn fmt<W: fmt::Write>(&self, f: &mut fmt::Formatter<W>) -> fmt::Result {
         let host = self.host.as_str();
         let messages = self.messages;
-        if self.is_reached {
-            write!(f, "{host} is reached again; messages due: {messages}")
-        } else {
-            write!(
+        match self.news {
+            HostNews::Reached => write!(f, "{host} is reached again; messages due: {messages}"),
+            HostNews::Failing => write!(
                 f,
                 "nothing can be delivered to {host}; messages due: {messages}"
-            )
+            ),
+            HostNews::Refused => write!(
+                f,
+                "nothing is delivered to {host}: its address is not public, and --peers private is not given; messages due: {messages}"
+            ),
         }
     }
 }

@@ -270,6 +270,13 @@ impl Noted {
         self.failures.tell(now)
     }
 
+    /// Notes that no peer may have its address. Answers whether that is to be told now.
+    pub(crate) fn refuse(&mut self) -> bool {
+        let is_news = !self.failures.is_told;
+        self.failures.is_told = true;
+        is_news
+    }
+
     /// Notes an exchange of use. Answers whether that is to be told now.
     pub(crate) fn succeed(&mut self) -> bool {
         let is_news = self.failures.is_told;

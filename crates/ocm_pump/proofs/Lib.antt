@@ -4,3 +4,4 @@ pub mod Letters
 pub mod Moves
 pub mod OneAnswers
 pub mod Runs
+pub mod MachineLemmas

@@ -1,5 +1,5 @@
 -- The exchanges of a dial, and what it is told of deliveries: histories, the newest first.
-use Rattle.std.specs.Prelude.{◌≡◌, ℕ, Bool, List, [], ◌∷◌, ◌++◌, Option, Some, None, option_map, IfSome, Result, Ok, Err}
+use Rattle.std.specs.Prelude.{◌≡◌, ℕ, ◌+◌, Bool, List, [], ◌∷◌, ◌++◌, Option, Some, None, option_map, IfSome, Result, Ok, Err}
 use Rattle.ocm_pump.specs.declared.exchanges.Came.{Came}
 use Rattle.ocm_pump.specs.declared.exchanges.Exchange.{Exchange}
 use Rattle.ocm_pump.specs.declared.exchanges.DialEnd.{DialEnd}
@@ -32,3 +32,7 @@ Hears old new host settles =
 -- what a call of several exchanges adds is such a history
 abbrev pub AddsSome : Option (List Exchange) → Option (List Exchange) → (List Exchange → Type 0) → Type 0
 AddsSome old new IsSuch = (added : List Exchange) × Adds old new added × IsSuch added
+
+-- a count has grown by so many, where it is kept
+abbrev pub Counts : Option ℕ → Option ℕ → ℕ → Type 0
+Counts old new more = new ≡ option_map (λ before. before + more) old

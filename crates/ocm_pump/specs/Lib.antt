@@ -4,3 +4,4 @@ pub mod Laws
 pub mod Memory
 pub mod Replies
 pub mod Sites
+pub mod Machines

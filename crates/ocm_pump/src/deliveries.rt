@@ -57,7 +57,7 @@ fn letter_bytes(alloc: Global, letter: &Letter) -> Result<Bytes, NoMemory>
 
 /// The post of a letter: without credentials.
 #[tactic(auto, unfolding(crate::specs::Delivery::post_request))]
-fn post_request(alloc: Global, site: &Site, letter: &Letter) -> Result<Bytes, NoMemory>
+pub(crate) fn post_request(alloc: Global, site: &Site, letter: &Letter) -> Result<Bytes, NoMemory>
     ensures { IfOk result (λ bytes. bytes ≡ delivery.post_request site.now letter.now) }
 {
     let mut target = String::from_str(alloc, site.path.as_str())?;
@@ -109,7 +109,7 @@ fn answer_by(alloc: Global, letter: &Letter, message: &Message) -> Result<Answer
 }
 
 /// The answer to a letter by what came back.
-fn answer_in(
+pub(crate) fn answer_in(
     alloc: Global,
     letter: &Letter,
     sent: Result<Message, PumpFault>,
@@ -159,7 +159,7 @@ fn find_and_post<N: Dial>(
 }
 
 /// Whether what came of a delivery settles its letter.
-fn is_settled(letter: &Letter, delivered: &Result<Answered, PumpFault>) -> bool
+pub(crate) fn is_settled(letter: &Letter, delivered: &Result<Answered, PumpFault>) -> bool
     ensures { result ≡ delivery.is_settled letter.now delivered.now }
 {
     match delivered {

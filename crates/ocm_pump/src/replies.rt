@@ -33,7 +33,7 @@ fn fault_of(fault: FrameFault) -> PumpFault
 }
 
 /// The reply that the bytes begin with.
-fn read_reply(alloc: Global, bytes: Bytes) -> Result<Message, PumpFault>
+pub(crate) fn read_reply(alloc: Global, bytes: Bytes) -> Result<Message, PumpFault>
     ensures { Reads bytes result }
 {
     let mut reader = Reader::replies(alloc, MOST_REPLY_BYTES)?;

@@ -31,7 +31,10 @@ fn site_by(alloc: Global, message: &Message) -> Result<Option<Site>, NoMemory>
 }
 
 /// The site by what came back. What is no reply has none.
-fn site_in(alloc: Global, sent: Result<Message, PumpFault>) -> Result<Option<Site>, PumpFault>
+pub(crate) fn site_in(
+    alloc: Global,
+    sent: Result<Message, PumpFault>,
+) -> Result<Option<Site>, PumpFault>
     ensures { Gives result (delivery.site_in sent) }
 {
     match sent {
@@ -46,7 +49,7 @@ fn site_in(alloc: Global, sent: Result<Message, PumpFault>) -> Result<Option<Sit
 
 /// The request for the document at a place: without credentials.
 #[tactic(auto, unfolding(crate::specs::Delivery::document_request))]
-fn document_request(alloc: Global, host: &Host, place: &str) -> Result<Bytes, NoMemory>
+pub(crate) fn document_request(alloc: Global, host: &Host, place: &str) -> Result<Bytes, NoMemory>
     ensures { IfOk result (λ request. request ≡ delivery.document_request host.now place.now) }
 {
     write_request(alloc, host, "GET", place, None, &Bytes::new(alloc))
@@ -72,7 +75,7 @@ fn ask<N: Dial>(
 }
 
 /// What the second place gives.
-fn found_at_last(found: Result<Option<Site>, PumpFault>) -> Result<Site, PumpFault>
+pub(crate) fn found_at_last(found: Result<Option<Site>, PumpFault>) -> Result<Site, PumpFault>
     ensures { result ≡ delivery.found_at_last found }
 {
     match found {

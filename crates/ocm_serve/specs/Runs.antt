@@ -47,8 +47,10 @@ pub record LogsTo {D C K : Type 0} (disk : Ghosts D) (sides : C → Sides) (take
 
 -- ---- the program
 
--- the clock of a worker tells what it gave
+-- the door of a worker tells its connections, its post its exchanges, and its clock what it gave
 pub record DoesTell {C Terms : Type 0} (w : Work C Terms) : Type 0 where
+  pub connections : is_some w.told ≡ true
+  pub exchanges : is_some w.exchanges ≡ true
   pub moments : is_some w.clock ≡ true
 
 -- A program opened the disk of a plan, which is said to hold these bytes, served that disk, and ended with this status. Workers are told as

@@ -13,7 +13,7 @@ use ocm_base::{Clock, GhostBytes, Sink};
 use ocm_disk::{Disk, FileDisk};
 use ocm_log_files::LogFile;
 use ocm_net_adapters::StreamConn;
-use ocm_pump::Dial;
+use ocm_pump::Post;
 use ocm_serve_log::{LogSink, LoggedRun, LoggedStore, serve_logged};
 use ocm_serve_options::Plan;
 use ocm_serve_system::{
@@ -50,13 +50,13 @@ pub fn run_logged<
 {
     let opening = match Opening::new(rt, alloc, plan, holds) {
         Ok(opening) => opening,
-        Err(fault) => return tell_fault(rt, fault),
+        Err(fault) => return tell_fault(rt, fault, plan, log),
     };
     match open_log(rt, alloc, log, plan.disk.as_str()) {
         Ok(log) => run_opened(rt, alloc, plan, opening, log),
         Err(fault) => {
             drop(opening);
-            tell_fault(rt, fault)
+            tell_fault(rt, fault, plan, log)
         }
     }
 }
@@ -83,7 +83,7 @@ fn run_opened<
         Err(error) => {
             drop(opening);
             drop(log);
-            return tell_fault(rt, OpenFault::of_listening(&error));
+            return tell_fault(rt, OpenFault::of_listening(&error), plan, "");
         }
     };
     tell_place(rt, &opening);
@@ -132,7 +132,7 @@ fn run_over<
 fn run_logged_workers<
     D: Disk + Send,
     L: Door + Send,
-    N: Dial + Send,
+    N: Post + Send,
     C: Clock + Send,
     K: LogSink + Send,
     R: Threads + Wait + Sync + Eprint,
@@ -151,7 +151,7 @@ where
     requires fresh { IfSome (K.taken log) (λ held. held ≡ []) }
     ensures status { IsStatus result }
     ensures runs { (came : Served) × (result ≡ status_of came) × LogsTo ⟦<D as Disk>⟧ L.Conn.sides K.taken K.faults plan.now draw_key disk
-        (map (λ w. work (L.told w.door) (L.faults w.door) (N.exchanges w.dial) (N.faults w.dial) (N.delivers w.dial) w.draw (C.given w.clock) w.pass w.end) workers.items) came }
+        (map (λ w. work (L.told w.door) (L.faults w.door) (N.exchanges w.post) (N.faults w.post) (N.delivers w.post) w.draw (C.given w.clock) w.pass w.end) workers.items) came }
 {
     let ran = serve_logged(rt, alloc, plan, &mut workers, disk, log, draw_key);
     let LoggedRun {
@@ -165,5 +165,5 @@ where
     drop(disk);
     dismiss(workers);
     tell_log(rt, left_out);
-    tell_end(rt, served)
+    tell_end(rt, served, plan)
 }

@@ -11,7 +11,7 @@ use crate::workers::{NetWorker, dismiss, workers_for};
 use ocm_base::{Clock, GhostBytes};
 use ocm_disk::{Disk, FileDisk};
 use ocm_net_adapters::StreamConn;
-use ocm_pump::Dial;
+use ocm_pump::Post;
 use ocm_serve_options::Plan;
 use ocm_serve_store::{Followed, serve};
 use ocm_serve_system::{OpenFault, Opening, ToldDisk, tell_end, tell_fault, tell_host, tell_place};
@@ -46,13 +46,13 @@ pub fn run<
 {
     let opening = match Opening::new(rt, alloc, plan, holds) {
         Ok(opening) => opening,
-        Err(fault) => return tell_fault(rt, fault),
+        Err(fault) => return tell_fault(rt, fault, plan, ""),
     };
     let workers = match workers_for(rt, alloc, plan, &opening) {
         Ok(workers) => workers,
         Err(error) => {
             drop(opening);
-            return tell_fault(rt, OpenFault::of_listening(&error));
+            return tell_fault(rt, OpenFault::of_listening(&error), plan, "");
         }
     };
     tell_place(rt, &opening);
@@ -90,7 +90,7 @@ fn run_over<
 fn run_workers<
     D: Disk + Send,
     L: Door + Send,
-    N: Dial + Send,
+    N: Post + Send,
     K: Clock + Send,
     R: Threads + Wait + Sync + Eprint,
 >(
@@ -108,10 +108,10 @@ where
 
     // The status is that of what `serve` came to, with all that is known of it.
     ensures runs { (came : Served) × (result ≡ status_of came) × ServesTo ⟦<D as Disk>⟧ L.Conn.sides plan.now draw_key disk
-        (map (λ w. work (L.told w.door) (L.faults w.door) (N.exchanges w.dial) (N.faults w.dial) (N.delivers w.dial) w.draw (K.given w.clock) w.pass w.end) workers.items) came }
+        (map (λ w. work (L.told w.door) (L.faults w.door) (N.exchanges w.post) (N.faults w.post) (N.delivers w.post) w.draw (K.given w.clock) w.pass w.end) workers.items) came }
 {
     let (served, disk) = serve(rt, alloc, plan, &mut workers, disk, draw_key);
     drop(disk);
     dismiss(workers);
-    tell_end(rt, served)
+    tell_end(rt, served, plan)
 }

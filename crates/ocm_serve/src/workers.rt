@@ -2,11 +2,11 @@
 ghost use Rattle.std.specs.Prelude.{◌≡◌, ◌+◌, None, All, IfOk, OnOk, vec_len};
 
 use ocm_base::{Clock, StdClock};
-use ocm_net_adapters::{NetDoor, TcpDial};
+use ocm_net_adapters::{NetDoor, Peers, TcpDial, is_local_host};
 use ocm_net_exchanges::{Delivering, Exchanges};
 use ocm_net_sockets::Serving;
-use ocm_pump::Dial;
-use ocm_serve_options::Plan;
+use ocm_pump::{DialPost, Post};
+use ocm_serve_options::{Peers as Told, Plan};
 use ocm_serve_system::Opening;
 use ocm_server::{Door, Worker};
 use ocm_server_connections::Draw;
@@ -18,27 +18,27 @@ use std::sync::{Arc, Wait};
 use std::thread::Threads;
 use std::{io, time};
 
-/// A worker with its door and dial over TCP, and the system's clock: one that serves connections and makes no exchange, or
+/// A worker with its door and post over TCP, and the system's clock: one that serves connections and delivers nothing, or
 /// one that delivers.
-pub type NetWorker<'a, T, R> = Worker<T, NetDoor<'a, R>, TcpDial<'a, R>, StdClock<'a, R>>;
+pub type NetWorker<'a, T, R> = Worker<T, NetDoor<'a, R>, DialPost<TcpDial<'a, R>>, StdClock<'a, R>>;
 
 /// Puts a worker without a pass behind others.
-fn add<T: Dated, L: Door, N: Dial, K: Clock>(
+fn add<T: Dated, L: Door, N: Post, K: Clock>(
     workers: &mut Vec<Worker<T, L, N, K>>,
     door: L,
-    dial: N,
+    post: N,
     draw: Draw,
     clock: K,
 ) -> io::Result<()>
     ensures count { OnOk result (vec_len workers.new ≡ vec_len workers.old + 1) }
     ensures fresh { OnOk result (All (λ w. w.pass ≡ None) workers.old.items → All (λ w. w.pass ≡ None) workers.new.items) }
 {
-    workers.push(Worker::new(door, dial, draw, clock))?;
+    workers.push(Worker::new(door, post, draw, clock))?;
     Ok(())
 }
 
 /// Lets workers go.
-pub(crate) fn dismiss<T: Dated, L: Door, N: Dial, K: Clock>(workers: Vec<Worker<T, L, N, K>>) {
+pub(crate) fn dismiss<T: Dated, L: Door, N: Post, K: Clock>(workers: Vec<Worker<T, L, N, K>>) {
     drop(workers);
 }
 
@@ -58,12 +58,23 @@ fn add_serving<
     ensures fresh { OnOk result (All (λ w. w.pass ≡ None) workers.old.items → All (λ w. w.pass ≡ None) workers.new.items) }
 {
     let entrance = Arc::try_clone(&opening.entrance)?;
-    let door = NetDoor::Serving(Serving::new(rt, alloc, entrance, number as usize)?);
+    let door = NetDoor::serving(Serving::new(rt, alloc, entrance, number as usize)?);
     let draw = Draw::new(opening.draw_key, u64::from(number));
-    add(workers, door, TcpDial::idle(), draw, StdClock::new(rt))
+    let post = DialPost::new(TcpDial::idle());
+    add(workers, door, post, draw, StdClock::new(rt))
 }
 
-/// Puts the worker that delivers behind others. Its number is the one behind theirs.
+/// Which peers the server of a plan asks: any where the plan says so, and where the host itself is named as one of its own
+/// machine or network; else those with public addresses.
+fn peers_of(plan: &Plan) -> Peers {
+    match plan.peers {
+        Told::Private => Peers::Any,
+        Told::Public if is_local_host(plan.host.as_str()) => Peers::Any,
+        Told::Public => Peers::Public,
+    }
+}
+
+/// Puts the worker of a plan that delivers behind those that serve. Its number is the one behind theirs.
 fn add_delivering<
     'a,
     T: Dated,
@@ -72,23 +83,18 @@ fn add_delivering<
     rt: &'a R,
     alloc: Global,
     opening: &Opening,
-    number: u32,
+    plan: &Plan,
     workers: &mut Vec<NetWorker<'a, T, R>>,
 ) -> io::Result<()>
     ensures count { OnOk result (vec_len workers.new ≡ vec_len workers.old + 1) }
     ensures fresh { OnOk result (All (λ w. w.pass ≡ None) workers.old.items → All (λ w. w.pass ≡ None) workers.new.items) }
 {
     let posts = Arc::try_clone(&opening.posts)?;
-    let exchanges = Arc::new(alloc, Exchanges::new(rt, alloc, posts)?)?;
-    let door = NetDoor::Delivering(Delivering::new(Arc::try_clone(&exchanges)?));
-    let draw = Draw::new(opening.draw_key, u64::from(number));
-    add(
-        workers,
-        door,
-        TcpDial::new(exchanges),
-        draw,
-        StdClock::new(rt),
-    )
+    let exchanges = Arc::new(alloc, Exchanges::new(rt, alloc, posts, peers_of(plan))?)?;
+    let door = NetDoor::delivering(Delivering::new(Arc::try_clone(&exchanges)?));
+    let draw = Draw::new(opening.draw_key, u64::from(plan.workers));
+    let post = DialPost::new(TcpDial::new(exchanges));
+    add(workers, door, post, draw, StdClock::new(rt))
 }
 
 /// The workers of a plan, each with a door of its own to what was opened, and behind them one that delivers. None has a
@@ -108,7 +114,7 @@ pub fn workers_for<
             return Err(error);
         }
     }
-    if let Err(error) = add_delivering(rt, alloc, opening, plan.workers, &mut workers) {
+    if let Err(error) = add_delivering(rt, alloc, opening, plan, &mut workers) {
         dismiss(workers);
         return Err(error);
     }

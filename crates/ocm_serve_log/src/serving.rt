@@ -21,7 +21,7 @@ use ocm_base::Clock;
 use ocm_dav::Config;
 use ocm_disk::Disk;
 use ocm_limits::SERVED_DISK_BYTES;
-use ocm_pump::Dial;
+use ocm_pump::Post;
 use ocm_serve_options::Plan;
 use ocm_serve_store::{Followed, MOST_CALLS, ended, names_of, refused};
 use ocm_server::{Door, Served, Worker, serve_object};
@@ -56,7 +56,7 @@ pub struct LoggedRun<D, K> {
 pub fn serve_logged<
     D: Disk + Send,
     L: Door + Send,
-    N: Dial + Send,
+    N: Post + Send,
     C: Clock + Send,
     K: LogSink + Send,
     R: Threads + Wait + Sync,
@@ -78,7 +78,7 @@ where
     // as were left out, which is none where the sink has had no fault and there was memory for each line, and some where there was none for one.
     ensures served { (calls own : ℕ) → HasServed result.served calls own → (run : Ran ⟦<D as Disk>⟧ plan.now (new_area served_disk_bytes) (2 ^ 63) disk result.disk calls own
         (λ config gate first past all. EachShift L.Conn.sides config draw_key workers.old workers.new
-        (λ w. work (L.told w.door) (L.faults w.door) (N.exchanges w.dial) (N.faults w.dial) (N.delivers w.dial) w.draw (C.given w.clock) w.pass w.end) gate first past all))
+        (λ w. work (L.told w.door) (L.faults w.door) (N.exchanges w.post) (N.faults w.post) (N.delivers w.post) w.draw (C.given w.clock) w.pass w.end) gate first past all))
         × IsLogOf (K.taken result.sink) (K.faults result.sink) result.left_out result.out_of_memory plan.now.host run.served.first.base run.served.service.history }
     ensures ended { (calls own : ℕ) → result.served ≡ Served.Ended calls own → (i : ℕ) (d : _) → i < length workers.new → (slice_index_or workers.new i d).end ≡ rounds.Ended }
     ensures fault { (calls own : ℕ) → result.served ≡ Served.DoorFault calls own → (i : ℕ) × (i < length workers.new) × ((d : _) → (slice_index_or workers.new i d).end ≡ rounds.DoorFault) }
@@ -120,7 +120,7 @@ fn serve_logged_store<
     J: Founded,
     D: Disk + Send,
     L: Door + Send,
-    N: Dial + Send,
+    N: Post + Send,
     C: Clock + Send,
     K: LogSink + Send,
     R: Threads + Wait + Sync,
@@ -141,7 +141,7 @@ where
     requires store { (k : List Entry) × J.known k × Stands ⟦<D as Disk>⟧ store k [] × IsLegalUnder (terms_of store) k [] }
     ensures served { (calls own : ℕ) → HasServed result.served calls own → (run : WasServed ⟦<D as Disk>⟧ (2 ^ 63) J.known store result.disk calls own
         (λ gate first past all. EachShift L.Conn.sides config.now draw_key workers.old workers.new
-        (λ w. work (L.told w.door) (L.faults w.door) (N.exchanges w.dial) (N.faults w.dial) (N.delivers w.dial) w.draw (C.given w.clock) w.pass w.end) gate first past all))
+        (λ w. work (L.told w.door) (L.faults w.door) (N.exchanges w.post) (N.faults w.post) (N.delivers w.post) w.draw (C.given w.clock) w.pass w.end) gate first past all))
         × IsLogOf (K.taken result.sink) (K.faults result.sink) result.left_out result.out_of_memory (host_of store) run.first.base run.service.history }
     ensures ended { (calls own : ℕ) → result.served ≡ Served.Ended calls own → (i : ℕ) (d : _) → i < length workers.new → (slice_index_or workers.new i d).end ≡ rounds.Ended }
     ensures fault { (calls own : ℕ) → result.served ≡ Served.DoorFault calls own → (i : ℕ) × (i < length workers.new) × ((d : _) → (slice_index_or workers.new i d).end ≡ rounds.DoorFault) }

@@ -1,2 +1,3 @@
+pub mod Complaints
 pub mod Keys
 pub mod Plans

@@ -1,5 +1,5 @@
 -- The options of `serve`, and what they order.
-use Rattle.std.specs.Prelude.{◌≡◌, ℕ, Bool, true, false, ◌&&◌, nat_le, List, [], ◌∷◌, Option, Some, None, option_and_then, option_map, Result, Ok, Err, String, string_bytes, codes, bytes_eq, map, if◌then◌else◌}
+use Rattle.std.specs.Prelude.{◌≡◌, ℕ, Bool, true, false, ◌&&◌, not, nat_le, List, [], ◌∷◌, Option, Some, None, option_and_then, option_map, Result, Ok, Err, String, string_bytes, codes, bytes_eq, map, if◌then◌else◌}
 use Rattle.std.specs.Option.{option_map_or}
 use Rattle.std.specs.Result.{result_ok}
 use Rattle.std.specs.declared.alloc.Global.{Global}
@@ -14,9 +14,12 @@ use Rattle.ocm_serve_options.specs.declared.plans.Plan.{Plan}
 use Rattle.ocm_serve_options.specs.declared.plans.Orders.{Orders}
 use Rattle.ocm_serve_options.specs.declared.plans.AdminKey.{AdminKey}
 use Rattle.ocm_serve_options.specs.declared.plans.AdminKey.TheVariants.{Key, File}
+use Rattle.ocm_serve_options.specs.declared.plans.Peers.{Peers}
+use Rattle.ocm_serve_options.specs.declared.plans.Peers.TheVariants.{Public, Private}
 use Rattle.ocm_serve_options.specs.declared.plans.PlanFault.{PlanFault}
 use Rattle.ocm_serve_options.specs.declared.plans.PlanFault.TheVariants.{Usage, NoMemory}
 use Rattle.ocm_serve_options.specs.declared.options.Numbers.{Numbers}
+use Rattle.ocm_serve_options.specs.declared.options.Choices.{Choices}
 use Rattle.ocm_serve_options.specs.declared.options.Names.{Names}
 use Rattle.ocm_serve_options.specs.declared.options.Places.{Places}
 
@@ -34,20 +37,30 @@ optional name value = record (option name) { defaults = value ∷ [] }
 abbrev pub flag : Text → Rule
 flag name = record (new_rule name) { long = Some name; action = Some SetTrue }
 
--- the command: ten options, nine of one value each and a flag, and nothing else
-abbrev pub serve : App
-serve = with_rule (with_rule (with_rule (with_rule (with_rule (with_rule (with_rule (with_rule (with_rule (with_rule (on_top (λ s. record s { disable_help_flag = true }) (new_app (codes "serve")))
+-- the command with the first six of its options
+abbrev pub first_six : App
+first_six = with_rule (with_rule (with_rule (with_rule (with_rule (with_rule (on_top (λ s. record s { disable_help_flag = true }) (new_app (codes "serve")))
     (needed (codes "host"))) (needed (codes "disk"))) (option (codes "admin"))) (option (codes "admin-file")))
-    (optional (codes "listen") (codes "127.0.0.1:8080"))) (optional (codes "workers") (codes "4")))
-    (optional (codes "key-file") (codes "/dev/urandom"))) (optional (codes "connections") (codes "0"))) (option (codes "log"))) (flag (codes "existing"))
+    (optional (codes "listen") (codes "127.0.0.1:8080"))) (optional (codes "workers") (codes "4"))
+
+-- the command: eleven options, ten of one value each and a flag, and nothing else
+abbrev pub serve : App
+serve = with_rule (with_rule (with_rule (with_rule (with_rule first_six
+    (optional (codes "key-file") (codes "/dev/urandom"))) (optional (codes "connections") (codes "0"))) (option (codes "log"))) (flag (codes "existing")))
+    (optional (codes "peers") (codes "public"))
 
 abbrev pub texts : List (String Global) → List Text
 texts = map string_bytes
 
--- the first word asks for a server
+-- the words behind a command ask for its options
+abbrev pub asks_help : List Text → Bool
+asks_help (word ∷ []) = bytes_eq word (codes "--help")
+asks_help _ = false
+
+-- the first word asks for a server, and what follows does not ask for its options alone
 abbrev pub asks_serve : List Text → Bool
 asks_serve [] = false
-asks_serve (word ∷ words) = bytes_eq word (codes "serve")
+asks_serve (word ∷ words) = bytes_eq word (codes "serve") && not (asks_help words)
 
 abbrev pub is_none : Kinds → Bool
 is_none [] = true
@@ -113,15 +126,30 @@ places_at rows = do
   disk ← first_of (codes "disk") rows
   listen ← first_of (codes "listen") rows
   key_file ← first_of (codes "key-file") rows
-  Some (record { disk = disk; listen = listen; key_file = key_file; log = first_of (codes "log") rows; existing = flag_at (codes "existing") rows })
+  Some (record { disk = disk; listen = listen; key_file = key_file; log = first_of (codes "log") rows })
+
+-- which servers messages are delivered to, by the word for them
+abbrev pub peers_of : List ℕ → Option Peers
+peers_of word = if bytes_eq word (codes "public") then Some Public else if bytes_eq word (codes "private") then Some Private else None
+
+-- which servers messages are delivered to
+abbrev pub peers_at : List Row → Option Peers
+peers_at rows = first_of (codes "peers") rows >>= peers_of
+
+-- what is one of two
+unfoldable pub choices_at : List Row → Option Choices
+choices_at rows = do
+  peers ← peers_at rows
+  Some (record { existing = flag_at (codes "existing") rows; peers = peers })
 
 -- the orders by the values of the options
 unfoldable pub orders_by : List Row → Option Orders
 orders_by rows = do
   numbers ← numbers_at rows
+  choices ← choices_at rows
   names ← names_at rows
   places ← places_at rows
-  Some (record { host = names.host; disk = places.disk; admin = names.admin; listen = places.listen; workers = numbers.workers; key_file = places.key_file; connections = numbers.connections; log = places.log; existing = places.existing })
+  Some (record { host = names.host; disk = places.disk; admin = names.admin; listen = places.listen; workers = numbers.workers; key_file = places.key_file; connections = numbers.connections; log = places.log; existing = choices.existing; peers = choices.peers })
 
 -- the orders by the words
 unfoldable pub orders_of : List Text → Option Orders
@@ -129,7 +157,7 @@ orders_of words = if asks_serve words && is_none (fault_of serve words) then ord
 
 -- the plan of orders, with the administrator's key
 abbrev pub plan_with : Orders → List ℕ → Plan
-plan_with orders admin = record { host = orders.host; disk = orders.disk; admin = admin; listen = orders.listen; workers = orders.workers; key_file = orders.key_file; connections = orders.connections; existing = orders.existing }
+plan_with orders admin = record { host = orders.host; disk = orders.disk; admin = admin; listen = orders.listen; workers = orders.workers; key_file = orders.key_file; connections = orders.connections; existing = orders.existing; peers = orders.peers }
 
 -- what reading gave: a value, or none exactly at Usage; want of memory is free
 abbrev pub Reads : {A : Type 0} → Result A PlanFault → Option A → Type 0

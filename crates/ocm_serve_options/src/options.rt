@@ -5,7 +5,7 @@ ghost use Rattle.clap.specs.Words.{found_of, rows_of, first_of};
 ghost use Rattle.ocm_serve_options.specs.Plans as plans;
 ghost use Rattle.ocm_serve_options.specs.Plans.{Reads};
 
-use crate::plans::{AdminKey, PlanFault};
+use crate::plans::{AdminKey, Peers, PlanFault};
 use clap::ArgMatches;
 use ocm_base::{NoMemory, Text, decimal_read};
 use ocm_limits::MOST_WORKERS;
@@ -33,7 +33,13 @@ pub(crate) struct Places {
     pub listen: Text,
     pub key_file: Text,
     pub log: Option<Text>,
+}
+
+/// What is one of two.
+#[derive(Clone, Copy)]
+pub(crate) struct Choices {
     pub existing: bool,
+    pub peers: Peers,
 }
 
 /// The text that an option is.
@@ -64,7 +70,7 @@ fn flag_at(matches: &ArgMatches<'_>, name: &str) -> bool
 }
 
 /// A number of workers: 1 to 64.
-fn workers_of(number: u64) -> Option<u32>
+pub(crate) fn workers_of(number: u64) -> Option<u32>
     ensures { result ≡ plans.workers_of number }
 {
     if 1 <= number && number <= MOST_WORKERS {
@@ -192,6 +198,39 @@ pub(crate) fn places_at(alloc: Global, matches: &ArgMatches<'_>) -> Result<Place
         listen,
         key_file,
         log,
+    })
+}
+
+/// Which servers messages are delivered to, by the word for them.
+pub(crate) fn peers_of(word: &str) -> Option<Peers>
+    ensures { result ≡ plans.peers_of word.now }
+{
+    if word == "public" {
+        Some(Peers::Public)
+    } else if word == "private" {
+        Some(Peers::Private)
+    } else {
+        None
+    }
+}
+
+fn peers_at(matches: &ArgMatches<'_>) -> Option<Peers>
+    ensures { result ≡ plans.peers_at (rows_of (found_of matches.now)) }
+{
+    match value_at(matches, "peers") {
+        Some(word) => peers_of(word),
+        None => None,
+    }
+}
+
+/// What is one of two.
+#[tactic(auto, unfolding(crate::specs::Plans::choices_at))]
+pub(crate) fn choices_at(matches: &ArgMatches<'_>) -> Option<Choices>
+    ensures { result ≡ plans.choices_at (rows_of (found_of matches.now)) }
+{
+    let peers = peers_at(matches)?;
+    Some(Choices {
         existing: flag_at(matches, "existing"),
+        peers,
     })
 }

@@ -4,6 +4,15 @@ ghost use Rattle.ocm_serve_options.specs.Plans.{plan_with};
 use ocm_base::Text;
 use ocm_types::{Host, Secret};
 
+/// Which servers messages are delivered to, by their addresses.
+#[derive(Clone, Copy)]
+pub enum Peers {
+    /// `public`: those at public addresses. If the host of this server is itself an address that is not public, all.
+    Public,
+    /// `private`: all, also those on this machine or in a private network.
+    Private,
+}
+
 /// What a running server is to be.
 pub struct Plan {
     /// The host whose server it is.
@@ -22,6 +31,8 @@ pub struct Plan {
     pub connections: u64,
     /// Whether the file of its disk has to be there: a missing one is refused, and none is made.
     pub existing: bool,
+    /// Which servers it delivers messages to.
+    pub peers: Peers,
 }
 
 impl Drop for Plan {
@@ -35,6 +46,7 @@ impl Drop for Plan {
             key_file: _,
             connections: _,
             existing: _,
+            peers: _,
         } = self;
     }
 }
@@ -68,6 +80,8 @@ pub struct Orders {
     pub log: Option<Text>,
     /// Whether the file of its disk has to be there: a missing one is refused, and none is made.
     pub existing: bool,
+    /// Which servers it delivers messages to.
+    pub peers: Peers,
 }
 
 impl Drop for Orders {
@@ -82,6 +96,7 @@ impl Drop for Orders {
             connections: _,
             log: _,
             existing: _,
+            peers: _,
         } = self;
     }
 }
@@ -101,6 +116,7 @@ impl Orders {
             connections,
             log: _,
             existing,
+            peers,
         } = self;
         Plan {
             host,
@@ -111,6 +127,7 @@ impl Orders {
             key_file,
             connections,
             existing,
+            peers,
         }
     }
 }

@@ -7,19 +7,29 @@ ghost use Rattle.ocm_serve_options.specs.Plans as plans;
 ghost use Rattle.ocm_serve_options.specs.Plans.{Reads, orders_by, orders_of, serve, texts};
 
 use crate::commands::serve_command;
-use crate::options::{names_at, numbers_at, places_at};
+use crate::options::{choices_at, names_at, numbers_at, places_at};
 use crate::plans::{Orders, PlanFault};
 use clap::error::ErrorKind;
 use clap::{ArgMatches, Error};
 use std::alloc::Global;
 
-/// Whether the words behind the program's name ask for a running server.
+/// Whether the words behind the program's name ask for a running server, and not for the options of one.
 pub fn asks_serve(words: &[String]) -> bool
     ensures { result ≡ plans.asks_serve (texts words.now) }
 {
     match words {
-        [first, ..] => first.as_str() == "serve",
+        [first, rest @ ..] => first.as_str() == "serve" && !asks_help(rest),
         [] => false,
+    }
+}
+
+/// Whether the words behind a command ask for its options: `--help`, alone.
+pub fn asks_help(words: &[String]) -> bool
+    ensures { result ≡ plans.asks_help (texts words.now) }
+{
+    match words {
+        [word] => word.as_str() == "--help",
+        _ => false,
     }
 }
 
@@ -51,6 +61,9 @@ fn orders_by_options(alloc: Global, matches: &ArgMatches<'_>) -> Result<Orders, 
     let Some(numbers) = numbers_at(matches) else {
         return Err(PlanFault::Usage);
     };
+    let Some(choices) = choices_at(matches) else {
+        return Err(PlanFault::Usage);
+    };
     let names = names_at(alloc, matches)?;
     let places = places_at(alloc, matches)?;
     Ok(Orders {
@@ -62,13 +75,14 @@ fn orders_by_options(alloc: Global, matches: &ArgMatches<'_>) -> Result<Orders, 
         key_file: places.key_file,
         connections: numbers.connections,
         log: places.log,
-        existing: places.existing,
+        existing: choices.existing,
+        peers: choices.peers,
     })
 }
 
 /// Reads the words behind a program's name: `serve` and its options `--host`, `--disk`, `--admin`,
-/// `--admin-file`, `--listen`, `--workers`, `--key-file`, `--connections` and `--log`, each of one value, and the flag
-/// `--existing`. The first two are required, and of the next two exactly one.
+/// `--admin-file`, `--listen`, `--workers`, `--key-file`, `--connections`, `--log` and `--peers`, each of one value, and the
+/// flag `--existing`. The first two are required, and of the next two exactly one.
 pub fn read_plan(alloc: Global, words: &[String]) -> Result<Orders, PlanFault>
     ensures { Reads result (orders_of (texts words.now)) }
 {

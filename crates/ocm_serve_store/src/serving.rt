@@ -16,7 +16,7 @@ use ocm_base::{Clock, NoMemory};
 use ocm_dav::Config;
 use ocm_disk::Disk;
 use ocm_limits::SERVED_DISK_BYTES;
-use ocm_pump::Dial;
+use ocm_pump::Post;
 use ocm_serve_options::Plan;
 use ocm_server::{Door, Rounds, Served, Worker, serve_object};
 use ocm_store::{LoadFault, Store};
@@ -33,12 +33,12 @@ pub const MOST_CALLS: u64 = 9_223_372_036_854_775_808;
 
 /// Loads the store of the plan's host from a disk and serves it by the workers, each in a thread of its own, until every
 /// door came to its end or failed. The disk comes back. The worker at each place draws by the stream of that number under
-/// the key, and makes rounds of delivery where its dial makes exchanges. There may be more workers than the plan names, and
+/// the key, and makes rounds of delivery where its post delivers. There may be more workers than the plan names, and
 /// has to be one. Where the disk is not loaded, no door was asked. It waits, and its return is not promised.
 pub fn serve<
     D: Disk + Send,
     L: Door + Send,
-    N: Dial + Send,
+    N: Post + Send,
     K: Clock + Send,
     R: Threads + Wait + Sync,
 >(
@@ -60,7 +60,7 @@ where
     // that the worker knew of before, if any. Since that moment a crash leaves what may follow this call, or a later one.
     ensures served { (calls own : ℕ) → HasServed result.0 calls own → Ran ⟦<D as Disk>⟧ plan.now (new_area served_disk_bytes) (2 ^ 63) disk result.1 calls own
         (λ config gate first past all. EachShift L.Conn.sides config draw_key workers.old workers.new
-        (λ w. work (L.told w.door) (L.faults w.door) (N.exchanges w.dial) (N.faults w.dial) (N.delivers w.dial) w.draw (K.given w.clock) w.pass w.end) gate first past all) }
+        (λ w. work (L.told w.door) (L.faults w.door) (N.exchanges w.post) (N.faults w.post) (N.delivers w.post) w.draw (K.given w.clock) w.pass w.end) gate first past all) }
 
     // It ended where every door came to its end, and else the door of a worker failed.
     ensures ended { (calls own : ℕ) → result.0 ≡ Served.Ended calls own → (i : ℕ) (d : _) → i < length workers.new → (slice_index_or workers.new i d).end ≡ rounds.Ended }
@@ -117,7 +117,7 @@ fn serve_store<
     J: Founded,
     D: Disk + Send,
     L: Door + Send,
-    N: Dial + Send,
+    N: Post + Send,
     K: Clock + Send,
     R: Threads + Wait + Sync,
 >(
@@ -135,7 +135,7 @@ where
     requires store { (k : List Entry) × J.known k × Stands ⟦<D as Disk>⟧ store k [] × IsLegalUnder (terms_of store) k [] }
     ensures served { (calls own : ℕ) → HasServed result.0 calls own → WasServed ⟦<D as Disk>⟧ (2 ^ 63) J.known store result.1 calls own
         (λ gate first past all. EachShift L.Conn.sides config.now draw_key workers.old workers.new
-        (λ w. work (L.told w.door) (L.faults w.door) (N.exchanges w.dial) (N.faults w.dial) (N.delivers w.dial) w.draw (K.given w.clock) w.pass w.end) gate first past all) }
+        (λ w. work (L.told w.door) (L.faults w.door) (N.exchanges w.post) (N.faults w.post) (N.delivers w.post) w.draw (K.given w.clock) w.pass w.end) gate first past all) }
     ensures ended { (calls own : ℕ) → result.0 ≡ Served.Ended calls own → (i : ℕ) (d : _) → i < length workers.new → (slice_index_or workers.new i d).end ≡ rounds.Ended }
     ensures fault { (calls own : ℕ) → result.0 ≡ Served.DoorFault calls own → (i : ℕ) × (i < length workers.new) × ((d : _) → (slice_index_or workers.new i d).end ≡ rounds.DoorFault) }
     ensures loaded { IsLoaded result.0 }
@@ -160,7 +160,7 @@ where
 }
 
 /// How workers ended that made so many calls: by a fault of a door where one of them had it.
-pub fn ended<T: Dated, L: Door, N: Dial, K: Clock>(
+pub fn ended<T: Dated, L: Door, N: Post, K: Clock>(
     workers: &[Worker<T, L, N, K>],
     calls: u64,
     own: u64,

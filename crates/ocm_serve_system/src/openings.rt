@@ -15,7 +15,6 @@ use std::net::{Net, TcpListener, TcpStream};
 use std::rt::Files;
 use std::sync::Arc;
 use std::{fmt, io};
-use thiserror::Error;
 
 /// How many connections are open at a time, where the limit on descriptors allows it.
 const MAX_OPEN: u64 = 8_192;
@@ -156,43 +155,31 @@ impl fmt::Display for Cause {
 }
 
 /// Why a server cannot begin.
-#[derive(Clone, Copy, Debug, PartialEq, Eq, Error)]
+#[derive(Clone, Copy, Debug, PartialEq, Eq)]
 pub enum OpenFault {
     /// The file of draws cannot be opened, or has fewer than 32 bytes.
-    #[error("the key file cannot be read{0}")]
     KeyFile(Cause),
     /// The file of the administrator's key cannot be opened or read.
-    #[error("the administrator's key file cannot be read{0}")]
     AdminFile(Cause),
     /// The file of the administrator's key holds none.
-    #[error("the administrator's key file holds no key: 1 to 255 bytes without a control character or ':', and at most one line end")]
     NoAdminKey,
     /// The disk's file cannot be opened or made.
-    #[error("the disk's file cannot be opened{0}")]
     Disk(Cause),
     /// There is no file for the disk, and none is to be made.
-    #[error("there is no journal at the path of --disk, and --existing makes none: for a new server make an empty file there")]
     NoDisk,
     /// Another process has the disk's file.
-    #[error("another server has the disk's file")]
     DiskInUse,
     /// The address cannot be listened at.
-    #[error("the address cannot be listened at{0}")]
     Listen(Cause),
     /// The file of the log cannot be opened or made.
-    #[error("the log's file cannot be opened{0}")]
     Log(Cause),
     /// Another process has the file of the log.
-    #[error("another server has the log's file")]
     LogInUse,
     /// The file of the log is that of the disk, maybe under another name.
-    #[error("the log's file is the disk's file")]
     LogIsDisk,
     /// The file of the log has bytes, and does not begin as a log does.
-    #[error("the log's file holds something else than a log")]
     NotLog,
     /// There was no memory.
-    #[error("out of memory")]
     NoMemory,
 }
 

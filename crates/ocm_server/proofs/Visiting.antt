@@ -32,7 +32,7 @@ ends_told : {C : Type 0} (told : Option (Doorway C)) (before : List (Visit C)) �
 ends_told (Some d) before = refl
 ends_told None before = refl
 
--- the same with a dial that is of the same kind
+-- the same with a post that is of the same kind
 pub comes_as : {C Terms : Type 0} (sides : C → Sides) (config : Config) (limit : ℕ) (now before : Bool) (conn : C) (told told' : Option (Doorway C)) (old new : Desk Terms)
     → now ≡ before → Comes sides config limit now conn told told' old new → Comes sides config limit before conn told told' old new
 comes_as sides config limit now before conn told told' old new same m = subst (λ (delivers : Bool). Comes sides config limit delivers conn told told' old new) same m

@@ -1,4 +1,4 @@
--- Connections one after another, with a round of delivery after each where the worker's dial makes exchanges.
+-- Connections one after another, with a round of delivery after each where the worker's post delivers.
 use Rattle.std.specs.Prelude.{◌≡◌, ◌≢◌, ℕ, ◌<◌, ◌≤◌, Bool, true, false, List, [], ◌∷◌, ◌++◌, map, Option, Some, None, option_map}
 use Rattle.rand_chacha.specs.ChaCha.{ChaCha}
 use Rattle.ocm_base.specs.Outside.{Rose}
@@ -26,7 +26,7 @@ pub record Visit (C : Type 0) : Type 0 where
   pub ended : endings.Ended
   pub pumped : Option Pumped
 
--- what a worker keeps from one connection to the next: the stream of drawn values, what the clock gave and the exchanges of the dial where they are told, and the pass
+-- what a worker keeps from one connection to the next: the stream of drawn values, what the clock gave and the exchanges of the post where they are told, and the pass
 pub record Desk (Terms : Type 0) : Type 0 where
   pub draw : ChaCha
   pub clock : Option (List ℕ)
@@ -40,17 +40,17 @@ desk draw clock exchanges pass = record { draw = draw; clock = clock; exchanges 
 abbrev pub at : {Terms : Type 0} → Sides → Desk Terms → State Terms
 at sides d = state sides d.draw d.clock d.pass
 
--- what a worker does behind a connection: one round of delivery where its dial makes exchanges, which is spent exactly where the turnstile's limit is
--- reached; and no call and no exchange where its dial makes none
+-- what a worker does behind a connection: one round of delivery where its post delivers, which is spent exactly where the turnstile's limit is
+-- reached; and no call and no exchange where its post delivers nothing
 abbrev pub Behind : {Terms : Type 0} → ℕ → Bool → Option Pumped → Hold Terms → Hold Terms → Type 0
 Behind limit delivers (Some pumped) old new =
     (delivers ≡ true) × Rounded old new pumped × (pumped.end ≡ Spent → limit ≤ new.pass.drawn) × (pumped.end ≢ Spent → new.pass.drawn < limit)
 Behind limit delivers None old new = (delivers ≡ false) × (new ≡ old)
 
--- one connection was served, and then a round of delivery made, where the worker's dial makes exchanges
+-- one connection was served, and then a round of delivery made, where the worker's post delivers
 pub record Visited {Terms : Type 0} (config : Config) (limit : ℕ) (delivers : Bool) (given back : Sides) (ended : endings.Ended) (pumped : Option Pumped) (old new : Desk Terms) : Type 0 where
   pub middle : Desk Terms
-  pub dial_waits : middle.exchanges ≡ old.exchanges
+  pub post_waits : middle.exchanges ≡ old.exchanges
   pub talked : Talked config limit (at given old) (at back middle) ended
   pub draw_waits : new.draw ≡ middle.draw
   pub clock_waits : new.clock ≡ middle.clock
@@ -70,7 +70,7 @@ returned v = record { conn = v.back; ended = v.ended }
 abbrev pub visited : {C : Type 0} → List (Visit C) → Doorway C → Doorway C
 visited visits d = record { given = map (λ v. v.given) visits ++ d.given; back = map returned visits ++ d.back; overs = d.overs }
 
--- a connection was served and came back, and a round was made where the dial makes exchanges
+-- a connection was served and came back, and a round was made where the post delivers
 pub record Comes {C Terms : Type 0} (sides : C → Sides) (config : Config) (limit : ℕ) (delivers : Bool) (conn : C) (told told' : Option (Doorway C)) (old new : Desk Terms) : Type 0 where
   pub back : C
   pub ended : endings.Ended
@@ -93,12 +93,12 @@ pub record Serves {C Terms : Type 0} (sides : C → Sides) (config : Config) (li
   pub door : told' ≡ option_map (λ d. left ended (visited visits d)) told
   pub served : Visits sides config limit delivers visits old new
 
--- what contracts see of a worker: what its door tells and its faults, what its dial tells, its faults and whether it makes exchanges, its drawn values, what its clock gave, its pass, and how it ended
+-- what contracts see of a worker: what its door tells and its faults, what its post tells, its faults and whether it delivers, its drawn values, what its clock gave, its pass, and how it ended
 pub record Work (C Terms : Type 0) : Type 0 where
   pub told : Option (Doorway C)
   pub faults : ℕ
   pub exchanges : Option (List Exchange)
-  pub dial_faults : ℕ
+  pub post_faults : ℕ
   pub delivers : Bool
   pub draw : ChaCha
   pub clock : Option (List ℕ)
@@ -106,8 +106,8 @@ pub record Work (C Terms : Type 0) : Type 0 where
   pub end : Rounds
 
 abbrev pub work : {C Terms : Type 0} → Option (Doorway C) → ℕ → Option (List Exchange) → ℕ → Bool → ChaCha → Option (List ℕ) → Option (Known Terms) → Rounds → Work C Terms
-work told faults exchanges dial_faults delivers draw clock pass end =
-    record { told = told; faults = faults; exchanges = exchanges; dial_faults = dial_faults; delivers = delivers; draw = draw; clock = clock; pass = pass; end = end }
+work told faults exchanges post_faults delivers draw clock pass end =
+    record { told = told; faults = faults; exchanges = exchanges; post_faults = post_faults; delivers = delivers; draw = draw; clock = clock; pass = pass; end = end }
 
 -- there is a pass of this turnstile
 abbrev pub Owns : {Terms : Type 0} → Gate → Option (Known Terms) → Type 0
@@ -127,5 +127,5 @@ pub record Worked {C Terms : Type 0} (sides : C → Sides) (config : Config) (ga
   pub fault : new.end ≡ DoorFault → Rose old.faults new.faults
   pub unfailed : new.end ≡ Ended → new.faults ≡ old.faults
   pub never_falls : old.faults ≤ new.faults
-  pub dial_never_falls : old.dial_faults ≤ new.dial_faults
+  pub post_never_falls : old.post_faults ≤ new.post_faults
   pub same_kind : new.delivers ≡ old.delivers

@@ -1,4 +1,4 @@
-//! A running server: workers, each with a door, a dial and a clock of its own, over one object behind a turnstile.
+//! A running server: workers, each with a door, a post and a clock of its own, over one object behind a turnstile.
 #![tactic(auto)]
 
 mod doors;

@@ -11,7 +11,7 @@ use crate::passes::{deal, gather};
 use crate::workers::{Rounds, Worker, serve_all};
 use ocm_base::Clock;
 use ocm_dav::Config;
-use ocm_pump::Dial;
+use ocm_pump::Post;
 use ocm_server_connections::{Conn, Node};
 use ocm_turn::{Dated, Founded, Pass, Turnstile};
 use std::alloc::Global;
@@ -35,7 +35,7 @@ pub struct Finished<T> {
 fn serve_through<
     T: Dated + Send,
     L: Door + Send,
-    N: Dial + Send,
+    N: Post + Send,
     K: Clock + Send,
     R: Threads + Wait + Sync,
 >(
@@ -59,7 +59,7 @@ where
     ensures home { T.awaited result.value ≡ None }
     ensures service { Service T.terms T.stands T.came T.legal node pass result.value result.calls result.own
         (λ past all. EachShift L.Conn.sides config.now draw_key workers.old workers.new
-        (λ w. work (L.told w.door) (L.faults w.door) (N.exchanges w.dial) (N.faults w.dial) (N.delivers w.dial) w.draw (K.given w.clock) w.pass w.end) node pass past all) }
+        (λ w. work (L.told w.door) (L.faults w.door) (N.exchanges w.post) (N.faults w.post) (N.delivers w.post) w.draw (K.given w.clock) w.pass w.end) node pass past all) }
     ensures ended { result.rounds ≡ Rounds.Ended → (i : ℕ) (d : Worker T L N K T.Work T.Mark T.Terms L.Conn) → i < length workers.new → (slice_index_or workers.new i d).end ≡ Rounds.Ended }
     ensures fault { result.rounds ≡ Rounds.DoorFault → (i : ℕ) × (i < length workers.new) × ((d : Worker T L N K T.Work T.Mark T.Terms L.Conn) → (slice_index_or workers.new i d).end ≡ Rounds.DoorFault) }
 {
@@ -84,7 +84,7 @@ pub fn serve_object<
     J: Founded,
     T: Dated + Send,
     L: Door + Send,
-    N: Dial + Send,
+    N: Post + Send,
     K: Clock + Send,
     R: Threads + Wait + Sync,
 >(
@@ -109,7 +109,7 @@ where
         × (J.known first.base × T.stands value first.base [] × T.legal first.terms first.base [])
         × Service T.terms T.stands T.came T.legal gate first f.value f.calls f.own
         (λ past all. EachShift L.Conn.sides config.now draw_key workers.old workers.new
-        (λ w. work (L.told w.door) (L.faults w.door) (N.exchanges w.dial) (N.faults w.dial) (N.delivers w.dial) w.draw (K.given w.clock) w.pass w.end) gate first past all)) }
+        (λ w. work (L.told w.door) (L.faults w.door) (N.exchanges w.post) (N.faults w.post) (N.delivers w.post) w.draw (K.given w.clock) w.pass w.end) gate first past all)) }
     // How the workers ended: a fault of a door where one of them had it.
     ensures ended { IfOk result (λ f. f.rounds ≡ Rounds.Ended → (i : ℕ) (d : Worker T L N K T.Work T.Mark T.Terms L.Conn) → i < length workers.new → (slice_index_or workers.new i d).end ≡ Rounds.Ended) }
     ensures fault { IfOk result (λ f. f.rounds ≡ Rounds.DoorFault → (i : ℕ) × (i < length workers.new) × ((d : Worker T L N K T.Work T.Mark T.Terms L.Conn) → (slice_index_or workers.new i d).end ≡ Rounds.DoorFault)) }

@@ -9,12 +9,12 @@ ghost use Rattle.ocm_server.specs.Visits.{Owns};
 use crate::doors::Door;
 use crate::workers::Worker;
 use ocm_base::Clock;
-use ocm_pump::Dial;
+use ocm_pump::Post;
 use ocm_server_connections::{Draw, Node};
 use ocm_turn::{Dated, Pass};
 
 /// Gives a worker a pass that is split off, and a stream of drawn values.
-fn deal_one<T: Dated, L: Door, N: Dial, K: Clock>(
+fn deal_one<T: Dated, L: Door, N: Post, K: Clock>(
     node: &Node<T>,
     pass: &mut Pass<T>,
     worker: &mut Worker<T, L, N, K>,
@@ -31,7 +31,7 @@ fn deal_one<T: Dated, L: Door, N: Dial, K: Clock>(
 }
 
 /// Gives each worker a pass that is split off the first, and a stream of drawn values of its own, by its place.
-pub(crate) fn deal<T: Dated, L: Door, N: Dial, K: Clock>(
+pub(crate) fn deal<T: Dated, L: Door, N: Post, K: Clock>(
     node: &Node<T>,
     pass: &mut Pass<T>,
     workers: &mut [Worker<T, L, N, K>],
@@ -50,7 +50,7 @@ pub(crate) fn deal<T: Dated, L: Door, N: Dial, K: Clock>(
 }
 
 /// Takes a worker's pass, and joins it to another.
-fn gather_one<T: Dated, L: Door, N: Dial, K: Clock>(
+fn gather_one<T: Dated, L: Door, N: Post, K: Clock>(
     node: &Node<T>,
     pass: &mut Pass<T>,
     worker: &mut Worker<T, L, N, K>,
@@ -72,7 +72,7 @@ fn gather_one<T: Dated, L: Door, N: Dial, K: Clock>(
 }
 
 /// Takes each worker's pass, and joins all of them to one.
-pub(crate) fn gather<T: Dated, L: Door, N: Dial, K: Clock>(
+pub(crate) fn gather<T: Dated, L: Door, N: Post, K: Clock>(
     node: &Node<T>,
     pass: &mut Pass<T>,
     workers: &mut [Worker<T, L, N, K>],

@@ -10,7 +10,7 @@ ghost use Rattle.ocm_server.specs.Visits.{Behind, Comes, Serves, Owns, Worked, e
 use crate::doors::Door;
 use ocm_base::Clock;
 use ocm_dav::Config;
-use ocm_pump::Dial;
+use ocm_pump::Post;
 use ocm_server_connections::{Conn, Draw, Node, serve_conn};
 use ocm_server_rounds::{Pumped, pump_round};
 use ocm_turn::{Dated, Pass};
@@ -27,80 +27,80 @@ pub enum Rounds {
     DoorFault,
 }
 
-/// Makes a round of delivery where the worker's dial makes exchanges, and else no call.
-fn round_behind<T: Dated, N: Dial, R: Wait>(
+/// Makes a round of delivery where the worker's post delivers, and else no call.
+fn round_behind<T: Dated, N: Post, R: Wait>(
     rt: &R,
     alloc: Global,
     node: &Node<T>,
     pass: &mut Pass<T>,
-    dial: &mut N,
+    post: &mut N,
 ) -> Option<Pumped>
     requires own { BelongsTo node.now pass.old }
-    ensures behind { Behind node.now.limit (N.delivers dial.old) result (hold pass.old (N.exchanges dial.old)) (hold pass.new (N.exchanges dial.new)) }
+    ensures behind { Behind node.now.limit (N.delivers post.old) result (hold pass.old (N.exchanges post.old)) (hold pass.new (N.exchanges post.new)) }
     ensures own { BelongsTo node.now pass.new }
-    ensures never_falls { N.faults dial.old ≤ N.faults dial.new }
-    ensures kind { N.delivers dial.new ≡ N.delivers dial.old }
+    ensures never_falls { N.faults post.old ≤ N.faults post.new }
+    ensures kind { N.delivers post.new ≡ N.delivers post.old }
 {
-    if dial.delivers() {
-        Some(pump_round(rt, alloc, node, pass, dial))
+    if post.delivers() {
+        Some(pump_round(rt, alloc, node, pass, post))
     } else {
         None
     }
 }
 
-/// Serves one connection, hands it back, and makes one round of delivery where the worker's dial makes exchanges.
-fn serve_visit<T: Dated, L: Door, N: Dial, K: Clock, R: Wait>(
+/// Serves one connection, hands it back, and makes one round of delivery where the worker's post delivers.
+fn serve_visit<T: Dated, L: Door, N: Post, K: Clock, R: Wait>(
     rt: &R,
     alloc: Global,
     config: &Config,
     node: &Node<T>,
     pass: &mut Pass<T>,
     door: &mut L,
-    dial: &mut N,
+    post: &mut N,
     draw: &mut Draw,
     clock: &mut K,
     mut conn: L::Conn,
 )
     requires own { BelongsTo node.now pass.old }
     requires out { IsOut (L.told door.old) }
-    ensures comes { Comes L.Conn.sides config.now node.now.limit (N.delivers dial.old) conn (L.told door.old) (L.told door.new)
-        (desk draw.old (K.given clock.old) (N.exchanges dial.old) pass.old) (desk draw.new (K.given clock.new) (N.exchanges dial.new) pass.new) }
+    ensures comes { Comes L.Conn.sides config.now node.now.limit (N.delivers post.old) conn (L.told door.old) (L.told door.new)
+        (desk draw.old (K.given clock.old) (N.exchanges post.old) pass.old) (desk draw.new (K.given clock.new) (N.exchanges post.new) pass.new) }
     ensures own { BelongsTo node.now pass.new }
     ensures faults { L.faults door.new ≡ L.faults door.old }
-    ensures dial_never_falls { N.faults dial.old ≤ N.faults dial.new }
-    ensures kind { N.delivers dial.new ≡ N.delivers dial.old }
+    ensures post_never_falls { N.faults post.old ≤ N.faults post.new }
+    ensures kind { N.delivers post.new ≡ N.delivers post.old }
 {
     let ended = serve_conn(rt, alloc, config, node, pass, &mut conn, draw, clock);
     door.done(conn, ended);
-    let _pumped = round_behind(rt, alloc, node, pass, dial);
+    let _pumped = round_behind(rt, alloc, node, pass, post);
 }
 
 /// Serves the connections of a door one after another.
-fn serve_door<T: Dated, L: Door, N: Dial, K: Clock, R: Wait>(
+fn serve_door<T: Dated, L: Door, N: Post, K: Clock, R: Wait>(
     rt: &R,
     alloc: Global,
     config: &Config,
     node: &Node<T>,
     pass: &mut Pass<T>,
     door: &mut L,
-    dial: &mut N,
+    post: &mut N,
     draw: &mut Draw,
     clock: &mut K,
 ) -> Rounds
     requires own { BelongsTo node.now pass.old }
-    ensures serves { Serves L.Conn.sides config.now node.now.limit (N.delivers dial.old) (L.told door.old) (L.told door.new) (ends result)
-        (desk draw.old (K.given clock.old) (N.exchanges dial.old) pass.old) (desk draw.new (K.given clock.new) (N.exchanges dial.new) pass.new) }
+    ensures serves { Serves L.Conn.sides config.now node.now.limit (N.delivers post.old) (L.told door.old) (L.told door.new) (ends result)
+        (desk draw.old (K.given clock.old) (N.exchanges post.old) pass.old) (desk draw.new (K.given clock.new) (N.exchanges post.new) pass.new) }
     ensures own { BelongsTo node.now pass.new }
     ensures fault { result ≡ Rounds.DoorFault → Rose (L.faults door.old) (L.faults door.new) }
     ensures unfailed { result ≡ Rounds.Ended → L.faults door.new ≡ L.faults door.old }
     ensures never_falls { L.faults door.old ≤ L.faults door.new }
-    ensures dial_never_falls { N.faults dial.old ≤ N.faults dial.new }
-    ensures kind { N.delivers dial.new ≡ N.delivers dial.old }
+    ensures post_never_falls { N.faults post.old ≤ N.faults post.new }
+    ensures kind { N.delivers post.new ≡ N.delivers post.old }
 {
     for _ in rt.forever() {
         match door.next() {
             Ok(Some(conn)) => serve_visit(
-                rt, alloc, config, node, pass, door, dial, draw, clock, conn,
+                rt, alloc, config, node, pass, door, post, draw, clock, conn,
             ),
             Ok(None) => return Rounds::Ended,
             Err(_) => return Rounds::DoorFault,
@@ -109,21 +109,21 @@ fn serve_door<T: Dated, L: Door, N: Dial, K: Clock, R: Wait>(
     unreachable!()
 }
 
-/// A worker: its door, its dial, its stream of drawn values, its pass, how it ended, and its clock.
-pub struct Worker<T: Dated, L: Door, N: Dial, K: Clock> {
+/// A worker: its door, its post, its stream of drawn values, its pass, how it ended, and its clock.
+pub struct Worker<T: Dated, L: Door, N: Post, K: Clock> {
     pub door: L,
-    pub dial: N,
+    pub post: N,
     pub draw: Draw,
     pub pass: Option<Pass<T>>,
     pub end: Rounds,
     pub clock: K,
 }
 
-impl<T: Dated + Drop, L: Door + Drop, N: Dial + Drop, K: Clock + Drop> Drop for Worker<T, L, N, K> {
+impl<T: Dated + Drop, L: Door + Drop, N: Post + Drop, K: Clock + Drop> Drop for Worker<T, L, N, K> {
     fn drop(self) {
         let Worker {
             door: _,
-            dial: _,
+            post: _,
             draw: _,
             pass: _,
             end: _,
@@ -132,14 +132,14 @@ impl<T: Dated + Drop, L: Door + Drop, N: Dial + Drop, K: Clock + Drop> Drop for 
     }
 }
 
-impl<T: Dated, L: Door, N: Dial, K: Clock> Worker<T, L, N, K> {
+impl<T: Dated, L: Door, N: Post, K: Clock> Worker<T, L, N, K> {
     /// A worker without a pass, which has not begun.
-    pub fn new(door: L, dial: N, draw: Draw, clock: K) -> Worker<T, L, N, K>
-        ensures { result ≡ record { door = door; dial = dial; draw = draw; pass = None; end = Rounds.Ended; clock = clock } }
+    pub fn new(door: L, post: N, draw: Draw, clock: K) -> Worker<T, L, N, K>
+        ensures { result ≡ record { door = door; post = post; draw = draw; pass = None; end = Rounds.Ended; clock = clock } }
     {
         Worker {
             door,
-            dial,
+            post,
             draw,
             pass: None,
             end: Rounds::Ended,
@@ -149,9 +149,9 @@ impl<T: Dated, L: Door, N: Dial, K: Clock> Worker<T, L, N, K> {
 }
 
 /// Serves the connections of the worker's door one after another: each to its ending, whatever that is, and then makes a
-/// round of delivery where the worker's dial makes exchanges. It ends where the door comes to its end or fails. It waits for its turns, and its return is not
+/// round of delivery where the worker's post delivers. It ends where the door comes to its end or fails. It waits for its turns, and its return is not
 /// promised.
-pub fn serve_worker<T: Dated, L: Door, N: Dial, K: Clock, R: Wait>(
+pub fn serve_worker<T: Dated, L: Door, N: Post, K: Clock, R: Wait>(
     rt: &R,
     alloc: Global,
     config: &Config,
@@ -160,8 +160,8 @@ pub fn serve_worker<T: Dated, L: Door, N: Dial, K: Clock, R: Wait>(
 )
     requires own { Owns node.now worker.old.pass }
     ensures worked { Worked L.Conn.sides config.now node.now
-        (work (L.told worker.old.door) (L.faults worker.old.door) (N.exchanges worker.old.dial) (N.faults worker.old.dial) (N.delivers worker.old.dial) worker.old.draw (K.given worker.old.clock) worker.old.pass worker.old.end)
-        (work (L.told worker.new.door) (L.faults worker.new.door) (N.exchanges worker.new.dial) (N.faults worker.new.dial) (N.delivers worker.new.dial) worker.new.draw (K.given worker.new.clock) worker.new.pass worker.new.end) }
+        (work (L.told worker.old.door) (L.faults worker.old.door) (N.exchanges worker.old.post) (N.faults worker.old.post) (N.delivers worker.old.post) worker.old.draw (K.given worker.old.clock) worker.old.pass worker.old.end)
+        (work (L.told worker.new.door) (L.faults worker.new.door) (N.exchanges worker.new.post) (N.faults worker.new.post) (N.delivers worker.new.post) worker.new.draw (K.given worker.new.clock) worker.new.pass worker.new.end) }
 {
     let taken = worker.pass.take();
     let mut pass = taken.unwrap();
@@ -172,7 +172,7 @@ pub fn serve_worker<T: Dated, L: Door, N: Dial, K: Clock, R: Wait>(
         node,
         &mut pass,
         &mut worker.door,
-        &mut worker.dial,
+        &mut worker.post,
         &mut worker.draw,
         &mut worker.clock,
     );
@@ -182,7 +182,7 @@ pub fn serve_worker<T: Dated, L: Door, N: Dial, K: Clock, R: Wait>(
 }
 
 /// How workers ended: a fault of a door where one of them had it.
-fn rounds_of<T: Dated, L: Door, N: Dial, K: Clock>(workers: &[Worker<T, L, N, K>]) -> Rounds
+fn rounds_of<T: Dated, L: Door, N: Post, K: Clock>(workers: &[Worker<T, L, N, K>]) -> Rounds
     ensures ended { result ≡ Rounds.Ended → (i : ℕ) (d : Worker T L N K T.Work T.Mark T.Terms L.Conn) → i < length workers.now → (slice_index_or workers.now i d).end ≡ Rounds.Ended }
     ensures fault { result ≡ Rounds.DoorFault → (i : ℕ) × (i < length workers.now) × ((d : Worker T L N K T.Work T.Mark T.Terms L.Conn) → (slice_index_or workers.now i d).end ≡ Rounds.DoorFault) }
 {
@@ -199,7 +199,7 @@ fn rounds_of<T: Dated, L: Door, N: Dial, K: Clock>(workers: &[Worker<T, L, N, K>
 pub fn serve_all<
     T: Dated + Send,
     L: Door + Send,
-    N: Dial + Send,
+    N: Post + Send,
     K: Clock + Send,
     R: Threads + Wait + Sync,
 >(
@@ -218,8 +218,8 @@ where
     ensures each { (i : ℕ) (d : Worker T L N K T.Work T.Mark T.Terms L.Conn) → i < length workers.old →
         let a = slice_index_or workers.old i d in let b = slice_index_or workers.new i d in
         Worked L.Conn.sides config.now node.now
-        (work (L.told a.door) (L.faults a.door) (N.exchanges a.dial) (N.faults a.dial) (N.delivers a.dial) a.draw (K.given a.clock) a.pass a.end)
-        (work (L.told b.door) (L.faults b.door) (N.exchanges b.dial) (N.faults b.dial) (N.delivers b.dial) b.draw (K.given b.clock) b.pass b.end) }
+        (work (L.told a.door) (L.faults a.door) (N.exchanges a.post) (N.faults a.post) (N.delivers a.post) a.draw (K.given a.clock) a.pass a.end)
+        (work (L.told b.door) (L.faults b.door) (N.exchanges b.post) (N.faults b.post) (N.delivers b.post) b.draw (K.given b.clock) b.pass b.end) }
     ensures ended { result ≡ Rounds.Ended → (i : ℕ) (d : Worker T L N K T.Work T.Mark T.Terms L.Conn) → i < length workers.new → (slice_index_or workers.new i d).end ≡ Rounds.Ended }
     ensures fault { result ≡ Rounds.DoorFault → (i : ℕ) × (i < length workers.new) × ((d : Worker T L N K T.Work T.Mark T.Terms L.Conn) → (slice_index_or workers.new i d).end ≡ Rounds.DoorFault) }
 {

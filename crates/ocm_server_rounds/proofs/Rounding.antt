@@ -88,6 +88,11 @@ module _ {Terms : Type 0} where
       let delivers = subst (λ (x : Result Answered PumpFault). Delivers message adds.0 x) is adds.2 in
       ([], adds.0, record { moved = moved_nothing old; adds = adds.1 }, subst (λ (e : RoundEnd). Tries message [] adds.0 false e) (sym end_is) (rounds.unanswered adds.0 fault delivers))
 
+  -- a message to which no answer came so far
+  pub tried_waiting : (message : Numbered) (old : Known Terms) (told told' : Option (List Exchange)) → told' ≡ told → Tried message (hold old told) (hold old told') false Whole
+  tried_waiting message old told told' same =
+      ([], [], record { moved = moved_nothing old; adds = same ∙ adds_none told }, rounds.waits)
+
   -- ---- messages in a row
 
   -- some messages were delivered, and whatever comes of the others comes of all of them with this before it
@@ -202,6 +207,10 @@ module _ {Terms : Type 0} where
 
   pub rounded_refused : (old new : Known Terms) (told : Option (List Exchange)) → Moved old new [] → Rounded (hold old told) (hold new told) (record { tried = 0; answered = 0; end = Spent })
   rounded_refused old new told moved = ([], [], record { moved = moved; adds = adds_none told }, rounds.refused)
+
+-- a round that stops is not whole
+pub not_whole : (end : RoundEnd) → is_whole end ≡ false → end ≡ Whole → ⊥
+not_whole end stops e = let w : is_whole Whole ≡ false = subst (λ (x : RoundEnd). is_whole x ≡ false) e stops in cc
 
 -- a round that goes on did not reach the limit
 pub not_spent_whole : (end : RoundEnd) → is_whole end ≡ true → end ≡ Spent → ⊥

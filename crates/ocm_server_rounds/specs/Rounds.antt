@@ -40,13 +40,21 @@ abbrev pub is_whole : RoundEnd → Bool
 is_whole Whole = true
 is_whole _ = false
 
+-- whether a settlement was written, by the reply to it
+abbrev pub is_written : Reply → Bool
+is_written replies.Done = true
+is_written replies.Left = true
+is_written _ = false
+
 -- the settlement of a message by what its delivery answered
 abbrev pub settlement : Numbered → Answered → Ask
 settlement message answered = asks.Settle message.number answered.status answered.id
 
 -- One message: its calls, the exchanges, whether a settlement was made, and the end of the round where it stops at this message.
 pub data Tries (message : Numbered) : List Entry → List Exchange → Bool → RoundEnd → Type 0 where
-  -- no answer came
+  -- no answer came so far: the delivery goes on
+  waits : Tries message [] [] false Whole
+  -- the delivery came to no answer
   unanswered : (added : List Exchange) (fault : PumpFault)
       → Delivers message added (Err fault) → Tries message [] added false (end_by fault)
   -- an answer came, and the turnstile's limit was reached
@@ -87,7 +95,7 @@ pub data Round : List Entry → List Exchange → Pumped → Type 0 where
       → Round (calls ++ entry asks.Due reply ∷ []) added
       (record { tried = counted (length (messages_of reply)); answered = counted settled; end = end })
 
--- what a round changes: the pass, and the exchanges of the dial where they are told
+-- what a round changes: the pass, and the exchanges of the post where they are told
 pub record Hold (Terms : Type 0) : Type 0 where
   pub pass : Known Terms
   pub exchanges : Option (List Exchange)

@@ -1,6 +1,7 @@
 //! A round of delivery.
 
-ghost use Rattle.std.specs.Prelude.{◌≡◌, ◌≢◌, ◌+◌, ◌<◌, ◌≤◌, ℕ, [], ◌∷◌, ◌++◌, min, true, IsTrue};
+ghost use Rattle.std.specs.Prelude.{◌≡◌, ◌≢◌, ◌+◌, ◌<◌, ◌≤◌, ℕ, [], ◌∷◌, ◌++◌, length, min, true, IsTrue};
+ghost use Rattle.ocm_pump.specs.Exchanges.{Counts};
 ghost use Rattle.ocm_turn.specs.Passes.{BelongsTo};
 ghost use Rattle.ocm_server_rounds.specs.Rounds as rounds;
 ghost use Rattle.ocm_server_rounds.specs.Rounds.{Delivered, Answers, Rounded, counted, hold, one_if};
@@ -8,7 +9,7 @@ ghost use Rattle.ocm_server_rounds.specs.Rounds.{Delivered, Answers, Rounded, co
 use crate::pumped::{Pumped, RoundEnd};
 use crate::settling::{ask_node, is_no_memory, try_message};
 use ocm_entry::{Ask, Reply};
-use ocm_pump::Dial;
+use ocm_pump::Post;
 use ocm_turn::{Dated, Pass, Turnstile};
 use ocm_types::Numbered;
 use std::alloc::Global;
@@ -64,28 +65,29 @@ struct Passed {
 }
 
 /// Delivers messages one after another, up to the first that stops the round.
-fn deliver_all<T: Dated, N: Dial, R: Wait>(
+fn deliver_all<T: Dated, N: Post, R: Wait>(
     rt: &R,
     alloc: Global,
     node: &Turnstile<T>,
     pass: &mut Pass<T>,
-    dial: &mut N,
+    post: &mut N,
     messages: &[Numbered],
 ) -> Passed
     requires own { BelongsTo node.now pass.old }
     requires below { pass.old.drawn < node.now.limit }
-    requires delivers { N.delivers dial.old ≡ true }
+    requires delivers { N.delivers post.old ≡ true }
     ensures delivered { (settled : ℕ) × (result.answered ≡ counted settled)
-        × Delivered messages.now (hold pass.old (N.exchanges dial.old)) (hold pass.new (N.exchanges dial.new)) settled result.end }
+        × Delivered messages.now (hold pass.old (N.exchanges post.old)) (hold pass.new (N.exchanges post.new)) settled result.end }
+    ensures asked { result.end ≡ RoundEnd.Whole → Counts (N.asked post.old) (N.asked post.new) (length messages.now) }
     ensures spent { result.end ≡ RoundEnd.Spent → node.now.limit ≤ pass.new.drawn }
     ensures below { result.end ≢ RoundEnd.Spent → pass.new.drawn < node.now.limit }
     ensures own { BelongsTo node.now pass.new }
-    ensures never_falls { N.faults dial.old ≤ N.faults dial.new }
-    ensures kind { N.delivers dial.new ≡ N.delivers dial.old }
+    ensures never_falls { N.faults post.old ≤ N.faults post.new }
+    ensures kind { N.delivers post.new ≡ N.delivers post.old }
 {
     let mut answered = 0;
     for message in messages {
-        let trial = try_message(rt, alloc, node, pass, dial, message);
+        let trial = try_message(rt, alloc, node, pass, post, message);
         answered = count_if(answered, trial.settled);
         if !is_whole(trial.end) {
             return Passed {
@@ -101,23 +103,24 @@ fn deliver_all<T: Dated, N: Dial, R: Wait>(
 }
 
 /// What a round comes to by the reply to the question for messages that are due.
-fn answer_due<T: Dated, N: Dial, R: Wait>(
+fn answer_due<T: Dated, N: Post, R: Wait>(
     rt: &R,
     alloc: Global,
     node: &Turnstile<T>,
     pass: &mut Pass<T>,
-    dial: &mut N,
+    post: &mut N,
     reply: &Reply,
 ) -> Pumped
     requires own { BelongsTo node.now pass.old }
     requires below { pass.old.drawn < node.now.limit }
-    requires delivers { N.delivers dial.old ≡ true }
-    ensures answers { Answers reply.now (hold pass.old (N.exchanges dial.old)) (hold pass.new (N.exchanges dial.new)) result }
+    requires delivers { N.delivers post.old ≡ true }
+    ensures answers { Answers reply.now (hold pass.old (N.exchanges post.old)) (hold pass.new (N.exchanges post.new)) result }
+    ensures asked { result.end ≡ RoundEnd.Whole → (due : ℕ) × (result.tried ≡ counted due) × Counts (N.asked post.old) (N.asked post.new) due }
     ensures spent { result.end ≡ RoundEnd.Spent → node.now.limit ≤ pass.new.drawn }
     ensures below { result.end ≢ RoundEnd.Spent → pass.new.drawn < node.now.limit }
     ensures own { BelongsTo node.now pass.new }
-    ensures never_falls { N.faults dial.old ≤ N.faults dial.new }
-    ensures kind { N.delivers dial.new ≡ N.delivers dial.old }
+    ensures never_falls { N.faults post.old ≤ N.faults post.new }
+    ensures kind { N.delivers post.new ≡ N.delivers post.old }
 {
     if is_no_memory(reply) {
         return Pumped {
@@ -127,7 +130,7 @@ fn answer_due<T: Dated, N: Dial, R: Wait>(
         };
     }
     let messages = messages_of(reply);
-    let passed = deliver_all(rt, alloc, node, pass, dial, messages);
+    let passed = deliver_all(rt, alloc, node, pass, post, messages);
     Pumped {
         tried: count_of(messages.len()),
         answered: passed.answered,
@@ -135,27 +138,29 @@ fn answer_due<T: Dated, N: Dial, R: Wait>(
     }
 }
 
-/// Makes one round of delivery: asks for the messages that are due, delivers them one after another, and settles each by
-/// what came back. A message without an answer stays due. The round stops at the turnstile's limit, and where there is no
+/// Makes one round of delivery: asks for the messages that are due, goes on with the delivery of each, and settles those to
+/// which an answer came. A message without one stays due. The round stops at the turnstile's limit, and where there is no
 /// memory. It waits for its turns, and its return is not promised.
-pub fn pump_round<T: Dated, N: Dial, R: Wait>(
+pub fn pump_round<T: Dated, N: Post, R: Wait>(
     rt: &R,
     alloc: Global,
     node: &Turnstile<T>,
     pass: &mut Pass<T>,
-    dial: &mut N,
+    post: &mut N,
 ) -> Pumped
     requires own { BelongsTo node.now pass.old }
-    requires delivers { N.delivers dial.old ≡ true }
-    ensures round { Rounded (hold pass.old (N.exchanges dial.old)) (hold pass.new (N.exchanges dial.new)) result }
+    requires delivers { N.delivers post.old ≡ true }
+    ensures round { Rounded (hold pass.old (N.exchanges post.old)) (hold pass.new (N.exchanges post.new)) result }
+    // The post was asked for each message that was due.
+    ensures asked { result.end ≡ RoundEnd.Whole → (due : ℕ) × (result.tried ≡ counted due) × Counts (N.asked post.old) (N.asked post.new) due }
     ensures spent { result.end ≡ RoundEnd.Spent → node.now.limit ≤ pass.new.drawn }
     ensures below { result.end ≢ RoundEnd.Spent → pass.new.drawn < node.now.limit }
     ensures own { BelongsTo node.now pass.new }
-    ensures never_falls { N.faults dial.old ≤ N.faults dial.new }
-    ensures kind { N.delivers dial.new ≡ N.delivers dial.old }
+    ensures never_falls { N.faults post.old ≤ N.faults post.new }
+    ensures kind { N.delivers post.new ≡ N.delivers post.old }
 {
     match ask_node(rt, node, pass, Ask::Due) {
-        Ok(reply) => answer_due(rt, alloc, node, pass, dial, &reply),
+        Ok(reply) => answer_due(rt, alloc, node, pass, post, &reply),
         Err(_) => Pumped {
             tried: 0,
             answered: 0,

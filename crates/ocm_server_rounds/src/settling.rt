@@ -2,6 +2,7 @@
 
 ghost use Rattle.std.specs.Prelude.{◌≡◌, ◌≢◌, ◌<◌, ◌≤◌, [], ◌∷◌, true, IfOk, OnOk, OnErr, IsTrue};
 ghost use Rattle.ocm_entry.specs.Proper.{is_proper};
+ghost use Rattle.ocm_pump.specs.Exchanges.{Counts};
 ghost use Rattle.ocm_turn.specs.Calls.{entry};
 ghost use Rattle.ocm_turn.specs.Moves.{Moved};
 ghost use Rattle.ocm_turn.specs.Passes.{BelongsTo};
@@ -10,7 +11,7 @@ ghost use Rattle.ocm_server_rounds.specs.Rounds.{Settles, Tried, hold};
 
 use crate::pumped::RoundEnd;
 use ocm_entry::{Ask, Reply};
-use ocm_pump::{Answered, Dial, PumpFault, deliver};
+use ocm_pump::{Answered, Post, PumpFault};
 use ocm_turn::{Dated, Pass, Spent, Turnstile};
 use ocm_types::Numbered;
 use std::alloc::Global;
@@ -70,11 +71,20 @@ fn end_by(fault: PumpFault) -> RoundEnd
     }
 }
 
-/// Settles a message by what its delivery answered.
-fn settle<T: Dated, R: Wait>(
+/// Whether a settlement was written, by the reply to it: the disk took it, and there was room and memory for it. An answer
+/// that settles nothing needs no more than that.
+fn is_written(reply: &Reply) -> bool
+    ensures { result ≡ rounds.is_written reply.now }
+{
+    matches!(reply, Reply::Done | Reply::Left)
+}
+
+/// Settles a message by what its delivery answered, and tells the post whether that was written.
+fn settle<T: Dated, N: Post, R: Wait>(
     rt: &R,
     node: &Turnstile<T>,
     pass: &mut Pass<T>,
+    post: &mut N,
     message: &Numbered,
     answered: Answered,
 ) -> Trial
@@ -83,6 +93,7 @@ fn settle<T: Dated, R: Wait>(
     ensures spent { result.end ≡ RoundEnd.Spent → node.now.limit ≤ pass.new.drawn }
     ensures below { result.end ≢ RoundEnd.Spent → pass.new.drawn < node.now.limit }
     ensures own { BelongsTo node.now pass.new }
+    ensures same { (N.exchanges post.new ≡ N.exchanges post.old) × (N.faults post.new ≡ N.faults post.old) × (N.delivers post.new ≡ N.delivers post.old) × (N.asked post.new ≡ N.asked post.old) }
 {
     let Answered { status, id } = answered;
     let ask = Ask::Settle {
@@ -91,41 +102,52 @@ fn settle<T: Dated, R: Wait>(
         id,
     };
     match ask_node(rt, node, pass, ask) {
-        Ok(reply) => Trial {
-            settled: true,
-            end: end_after(reply),
-        },
-        Err(_) => Trial {
-            settled: false,
-            end: RoundEnd::Spent,
-        },
+        Ok(reply) => {
+            post.settled(message, is_written(&reply));
+            Trial {
+                settled: true,
+                end: end_after(reply),
+            }
+        }
+        Err(_) => {
+            post.settled(message, false);
+            Trial {
+                settled: false,
+                end: RoundEnd::Spent,
+            }
+        }
     }
 }
 
-/// Delivers a message, and settles it by what came back.
-pub(crate) fn try_message<T: Dated, N: Dial, R: Wait>(
+/// Goes on with the delivery of a message, and settles it by what came back, where an answer came.
+pub(crate) fn try_message<T: Dated, N: Post, R: Wait>(
     rt: &R,
     alloc: Global,
     node: &Turnstile<T>,
     pass: &mut Pass<T>,
-    dial: &mut N,
+    post: &mut N,
     message: &Numbered,
 ) -> Trial
     requires own { BelongsTo node.now pass.old }
     requires below { pass.old.drawn < node.now.limit }
-    requires delivers { N.delivers dial.old ≡ true }
-    ensures tried { Tried message.now (hold pass.old (N.exchanges dial.old)) (hold pass.new (N.exchanges dial.new)) result.settled result.end }
+    requires delivers { N.delivers post.old ≡ true }
+    ensures tried { Tried message.now (hold pass.old (N.exchanges post.old)) (hold pass.new (N.exchanges post.new)) result.settled result.end }
+    ensures asked { Counts (N.asked post.old) (N.asked post.new) 1 }
     ensures spent { result.end ≡ RoundEnd.Spent → node.now.limit ≤ pass.new.drawn }
     ensures below { result.end ≢ RoundEnd.Spent → pass.new.drawn < node.now.limit }
     ensures own { BelongsTo node.now pass.new }
-    ensures never_falls { N.faults dial.old ≤ N.faults dial.new }
-    ensures kind { N.delivers dial.new ≡ N.delivers dial.old }
+    ensures never_falls { N.faults post.old ≤ N.faults post.new }
+    ensures kind { N.delivers post.new ≡ N.delivers post.old }
 {
-    match deliver(alloc, dial, message) {
-        Ok(answered) => settle(rt, node, pass, message, answered),
-        Err(fault) => Trial {
+    match post.deliver(alloc, message) {
+        Some(Ok(answered)) => settle(rt, node, pass, post, message, answered),
+        Some(Err(fault)) => Trial {
             settled: false,
             end: end_by(fault),
+        },
+        None => Trial {
+            settled: false,
+            end: RoundEnd::Whole,
         },
     }
 }

@@ -72,7 +72,7 @@ impl<D: Disk> Store<D> {
         ensures begins { D.tells → IfOk result (λ store. D.faithful (disk_of store) → (live : LiveArea) → BeginsWith host (new_area limit) (D.seen disk) live → HasLiveArea ⟦<D as Disk>⟧ host live store) }
     {
         match Journal::load(alloc, disk, host.text().as_str().as_bytes(), limit) {
-            Ok((journal, records)) => Store::replay(alloc, host, journal, &records),
+            Ok((journal, records)) => Store::replay(alloc, host, journal, records),
             Err((disk, fault)) => Err((disk, LoadFault::from(fault))),
         }
     }
@@ -82,15 +82,15 @@ impl<D: Disk> Store<D> {
         alloc: Global,
         host: Host,
         journal: Journal<D>,
-        records: &List<RawRecord>,
+        records: List<RawRecord>,
     ) -> Result<Store<D>, (D, LoadFault)>
         requires { journal.stopped ≡ false }
         ensures host { IfOk result (λ store. host_of store ≡ host) }
         ensures journal { IfOk result (λ store. store.journal ≡ journal) }
-        ensures memory { IfOk result (λ store. (k : List Entry) × (opened host (journals.form_of journal) (contents records.now) ≡ Some k) × IsMemoryOf store.history k) }
+        ensures memory { IfOk result (λ store. (k : List Entry) × (opened host (journals.form_of journal) (contents records) ≡ Some k) × IsMemoryOf store.history k) }
         ensures goes { IfOk result (λ store. fault_of store ≡ None) }
         ensures disk { IfErr result (λ failed. failed.0 ≡ journals.disk_of journal) }
-        ensures refused { IfErr result (λ failed. IsRefused (refused_at host (journals.form_of journal) records.now) failed.1) }
+        ensures refused { IfErr result (λ failed. IsRefused (refused_at host (journals.form_of journal) records) failed.1) }
     {
         let mut history = History::new(alloc, host);
         match take_records(&mut history, journal.form(), records) {

@@ -4,7 +4,7 @@ ghost use Rattle.ocm_disk.specs.Disk.{LeavesOnly};
 ghost use Rattle.ocm_entry.specs.declared.asks.Ask.{Ask};
 ghost use Rattle.ocm_entry.specs.declared.entries.Entry.{Entry};
 ghost use Rattle.ocm_core.specs.Standing.{IsPlanned};
-ghost use Rattle.ocm_journal_image.specs.Layout.{AreRecords, blocks_size};
+ghost use Rattle.ocm_journal_image.specs.Layout.{blocks_size};
 ghost use Rattle.ocm_journal.specs.AfterFaults.{AfterFault};
 ghost use Rattle.ocm_journal.specs.Faults as faults;
 ghost use Rattle.ocm_journal.specs.declared.journal.Journal.{Journal};
@@ -23,11 +23,11 @@ ghost use Rattle.ocm_history.specs.Histories.{home_of};
 ghost use Rattle.ocm_store.specs.Stores.{IsWritten};
 
 use crate::write_faults::WriteFault;
-use ocm_base::{Bytes, List};
 use ocm_core::Planned;
 use ocm_disk::Disk;
 use ocm_history::{Draft, History, KeptRecord, RecordFault};
 use ocm_journal::{AppendFault, Journal, RenewFault};
+use ocm_journal_area::AreaRecords;
 
 /// Appends the record of a change to its journal, where that was not done yet. Room was taken for it.
 pub(crate) fn append_once<D: Disk>(
@@ -106,27 +106,22 @@ fn write_anew<D: Disk>(
         (OpensLive host (area_of journal.old) (heard host g ask ∷ g) (written_in false live [] (records_of (lean host (heard host g ask ∷ g))))) (disk_of journal.new) }
 {
     match history.lean_records(planned, newest) {
-        Ok(records) => {
-            let written = put_in_place(journal, &records);
-            drop(records);
-            written
-        }
+        Ok(records) => put_in_place(journal, records),
         Err(RecordFault::TooLong) => Err(WriteFault::Full),
         Err(RecordFault::NoMemory) => Err(WriteFault::NoMemory),
     }
 }
 
 /// Puts these records in place of all that the journal holds.
-fn put_in_place<D: Disk>(journal: &mut Journal<D>, records: &List<Bytes>) -> Result<(), WriteFault>
-    requires sizes { AreRecords records.now }
+fn put_in_place<D: Disk>(journal: &mut Journal<D>, records: AreaRecords) -> Result<(), WriteFault>
     requires goes { journal.old.stopped ≡ false }
     ensures written { D.tells → (label : List ℕ) (before : List (List ℕ)) → StandsFor ⟦<D as Disk>⟧ label before journal.old
-        → OnOk result ((form_of journal.new ≡ 2) × StandsFor ⟦<D as Disk>⟧ label records.now journal.new) }
+        → OnOk result ((form_of journal.new ≡ 2) × StandsFor ⟦<D as Disk>⟧ label records journal.new) }
     ensures unwritten { D.tells → (label : List ℕ) (before : List (List ℕ)) → StandsFor ⟦<D as Disk>⟧ label before journal.old
         → IfErr result (λ fault. IsNoDiskFault fault → (form_of journal.new ≡ form_of journal.old) × StandsFor ⟦<D as Disk>⟧ label before journal.new) }
     ensures any_moment { D.tells → (label : List ℕ) (before : List (List ℕ)) → StandsFor ⟦<D as Disk>⟧ label before journal.old
-        → LeavesOnly D.moment D.left_since (disk_of journal.old) (disk_of journal.new) (IsOldOrNew label (area_of journal.old) (form_of journal.old) before records.now) }
-    ensures full { IsErrOf result WriteFault.Full → area_of journal.old < 2 + blocks_size records.now }
+        → LeavesOnly D.moment D.left_since (disk_of journal.old) (disk_of journal.new) (IsOldOrNew label (area_of journal.old) (form_of journal.old) before records) }
+    ensures full { IsErrOf result WriteFault.Full → area_of journal.old < 2 + blocks_size records }
     ensures fault { IfErr result (HasCount (D.count (disk_of journal.old)) (D.count (disk_of journal.new))) }
     ensures count { OnOk result (D.count (disk_of journal.new) ≡ D.count (disk_of journal.old)) }
     ensures stopped { journal.new.stopped ≡ stops result }
@@ -140,7 +135,7 @@ fn put_in_place<D: Disk>(journal: &mut Journal<D>, records: &List<Bytes>) -> Res
     ensures after_fault { D.tells → (label : List ℕ) (before : List (List ℕ)) (left : ℕ) → StandsFor ⟦<D as Disk>⟧ label before journal.old → IsStopped journal.new
         → D.passes (disk_of journal.old) left → D.burnt (disk_of journal.old) left
         → AfterFault ⟦<D as Disk>⟧ left (first_is_live journal.old) (IsImageWith (first_is_live journal.old) label (area_of journal.old) (form_of journal.old) before)
-        (IsImageWith (not (first_is_live journal.old)) label (area_of journal.old) 2 records.now) (disk_of journal.new) }
+        (IsImageWith (not (first_is_live journal.old)) label (area_of journal.old) 2 records) (disk_of journal.new) }
 {
     match journal.renew(records) {
         Ok(()) => Ok(()),

@@ -9,14 +9,19 @@ ghost use Rattle.ocm_commands_dav.specs.Exchanges.{AsksPut};
 ghost use Rattle.ocm_commands_dav.specs.declared.ends.End.{End};
 ghost use Rattle.ocm_commands_dav.specs.declared.ends.End.TheVariants as asked;
 ghost use Rattle.ocm_commands_files.specs.Commands.{usage_line};
+ghost use Rattle.ocm_commands_network.specs.Servers.{DoesWords};
 ghost use Rattle.ocmd.specs.Runs.{AloneCame, AloneEnds, AloneReads, AskAlone, AskRemote, AskServe, RemoteEnds, ServeEnds};
 
-use ocm_base::{Sink, Source, StdSink, StdSource};
+use ocm_base::{GhostBytes, Sink, Source, StdSink, StdSource};
 use ocm_commands::command;
 use ocm_commands_files::usage;
 use ocm_commands_network::{asks_remote, asks_serve, run_remote, run_server, told};
-use ocm_disk::Shelf;
+use ocm_disk::{Disk, FileDisk, Shelf};
+use ocm_log_files::LogFile;
+use ocm_net_adapters::StreamConn;
 use ocm_serve::StandIns;
+use ocm_serve_system::{DroppedLines, ToldDisk, Unblocked};
+use ocm_server_connections::Conn;
 use std::alloc::Global;
 use std::fs::File;
 use std::io::{Eprint, ErrorKind};
@@ -34,8 +39,19 @@ fn main(rt: HostRuntime) -> ExitCode {
     let stand_ins = StandIns::open(&rt);
     let mut source = StdSource::new(rt.reader());
     let mut sink = StdSink::new(io::writer(&rt));
+    let dropped = DroppedLines::new();
+    let unblocked = Unblocked::new(&rt, &dropped);
+    // Contracts alone read what is said here of a disk: the program does the same whatever it is.
+    let holds = GhostBytes::new();
     let status = match words_of(&rt) {
-        Ok(words) => run(&rt, rt.alloc(), &words, &mut source, &mut sink),
+        Ok(words) => run(
+            &unblocked,
+            rt.alloc(),
+            &words,
+            &mut source,
+            &mut sink,
+            holds,
+        ),
         Err(kind) => without_words(kind, &mut sink),
     };
     drop(stand_ins);
@@ -54,7 +70,9 @@ fn words_of(rt: &HostRuntime) -> Result<Vec<String>, ErrorKind> {
 }
 
 /// Does what the words ask for, and answers the status of the program: `serve` and `dav` by the first word, else `command`.
+/// What the disk of a server holds is said by the caller, for contracts alone.
 fn run<
+    'a,
     R: Threads
         + Wait
         + Sync
@@ -64,9 +82,10 @@ fn run<
         + Net<Listener = TcpListener, Stream = TcpStream>,
     S: Source,
     K: Sink,
->(rt: &R, alloc: Global, words: &[String], source: &mut S, sink: &mut K) -> u8
+>(rt: &'a R, alloc: Global, words: &[String], source: &mut S, sink: &mut K, holds: GhostBytes) -> u8
     // `serve`
     ensures serve { AskServe (texts words.now) → ServeEnds (texts words.now) result (K.taken sink.old) (K.taken sink.new) (K.faults sink.old) (K.faults sink.new) }
+    ensures serve_ran { AskServe (texts words.now) → (result ≡ 1) ⊎ (result ≡ 4) ⊎ DoesWords ⟦<ToldDisk<'a, R, FileDisk> as Disk>⟧ ⟦<StreamConn<'a, R> as Conn>⟧.sides ⟦<LogFile as Sink>⟧.taken ⟦<LogFile as Sink>⟧.faults (texts words.now) holds.bytes result }
     ensures serve_unread { AskServe (texts words.now) → source.new ≡ source.old }
 
     // `dav`
@@ -83,7 +102,7 @@ fn run<
     ensures alone_write_fault { AskAlone (texts words.now) → result ≡ 4 → Rose (K.faults sink.old) (K.faults sink.new) }
 {
     if asks_serve(words) {
-        return run_server(rt, alloc, words, sink);
+        return run_server(rt, alloc, words, sink, holds);
     }
     if asks_remote(words) {
         return told(rt, run_remote(rt, alloc, words, source, sink));

@@ -39,6 +39,9 @@ returns-then-asks_serve-clause-serve g c serves =
       e.write_fault,
     )
 
+pub returns-then-asks_serve-clause-serve_ran : goal.returns-then-asks_serve-clause-serve_ran
+returns-then-asks_serve-clause-serve_ran g c = λ serves. c.run_server.ensures.ran
+
 pub returns-then-asks_remote-clause-dav : goal.returns-then-asks_remote-clause-dav
 returns-then-asks_remote-clause-dav g c remote =
     let e = c.run_remote.ensures in (

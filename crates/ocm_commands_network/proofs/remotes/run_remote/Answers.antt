@@ -1,18 +1,25 @@
-use Rattle.std.proofs.Common.{inl, inr}
+use Rattle.std.proofs.Common.{List, Option, Result, Some, inl, inr, subst}
+use Rattle.ocm_commands_dav.specs.Exchanges.{DoesAsked}
+use Rattle.ocm_net_adapters.specs.Dials.{DialTold}
 use Rattle.ocm_commands_network.proofs.remotes.run_remote.Goals as goal
 
 pub returns-clause-read_for_put : goal.returns-clause-read_for_put
 returns-clause-read_for_put g c =
     λ either. elim either [
-      | inl fault ↦ (c.remote.ensures.read_fault fault).0
-      | inr long ↦ (c.remote.ensures.too_long long).0
+      | inl fault ↦ (c.remote-end.ensures.read_fault fault).0
+      | inr long ↦ (c.remote-end.ensures.too_long long).0
     ]
 
 pub returns-clause-too_long : goal.returns-clause-too_long
-returns-clause-too_long g c = λ long. (c.remote.ensures.too_long long).1
+returns-clause-too_long g c = λ long. (c.remote-end.ensures.too_long long).1
 
 pub returns-clause-told : goal.returns-clause-told
-returns-clause-told g c = c.remote.ensures.exact
+returns-clause-told g c = λ is.
+    let e = c.remote-end.ensures.exact is in
+    (e.0, c.remote-end.new.dial.book.exchanges, subst (λ (b : DialTold). DoesAsked _ _ _ (Some b.exchanges) (Some c.remote-end.new.dial.book.exchanges) e.0) c.new-dial.ensures e.1, e.2, e.3)
 
 pub returns-clause-part : goal.returns-clause-part
-returns-clause-part g c = c.remote.ensures.part
+returns-clause-part g c = λ is. elim (c.remote-end.ensures.part is) [
+  | inl other ↦ inl other
+  | inr e ↦ inr (e.0, c.remote-end.new.dial.book.exchanges, subst (λ (b : DialTold). DoesAsked _ _ _ (Some b.exchanges) (Some c.remote-end.new.dial.book.exchanges) e.0) c.new-dial.ensures e.1, e.2)
+]

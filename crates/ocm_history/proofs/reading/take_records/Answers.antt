@@ -1,5 +1,6 @@
-use Rattle.std.proofs.Common.{◌≡◌, length, sym, ◌∙◌, ap, subst, arith}
-use Rattle.ocm_law_sessions.specs.Readings.{goes_on, refused_at}
+use Rattle.std.proofs.Common.{◌++◌, ◌∷◌, [], length, append_assoc, sym, ◌∙◌, ap, subst, arith}
+use Rattle.std.specs.Vec.Iter.{into_iter_items}
+use Rattle.ocm_law_sessions.specs.Readings.{goes_on}
 use Rattle.ocm_history.specs.Histories.{home_of}
 use Rattle.ocm_history.specs.Replays.{GoesOn}
 use Rattle.ocm_history.proofs.Going.{goes-home, opened-all, opened-next, opened-refused}
@@ -7,28 +8,35 @@ use Rattle.ocm_history.proofs.reading.take_records.Goals as goal
 
 pub loop-record-preserved : goal.loop-record-preserved
 loop-record-preserved c =
+    let at = c.loop-record in
+    let record_in = c.in-Some.record in
     let host = home_of c.args.history.now in
-    let old = c.loop-record.history in
-    let new = c.take_record.new.history in
+    let new = c.take_record-taken.new.history in
+    let steps = c.in-Some.ensures.steps in
+    let long = ap length steps.0 in
     record {
-      home = c.in_ok-going.ensures.home ∙ c.loop-record.invariant.home;
-      opened = opened-next host c.args.form c.as_slice-items.result.now c.loop-record.record-index c.record-item.result old new (omega arith) c.record-item.is c.loop-record.invariant.opened
-          (goes-home old new host (home_of old) c.args.form c.record-item.result.bytes _ c.loop-record.invariant.home
-          (subst (λ b. GoesOn old new (λ k. goes_on (home_of old) c.args.form k c.record-item.result.bytes) b) c.if-not-going.false c.in_ok-going.ensures.goes_on));
+      home = c.in_ok-going.ensures.home ∙ at.invariant.home;
+      all = append_assoc at.yielded (record_in ∷ []) (into_iter_items c.next.new.self) ∙ (ap (λ l. at.yielded ++ l) (sym steps.0) ∙ at.invariant.all);
+      left = omega (arith, steps.1, long, at.invariant.left);
+      opened = opened-next host c.args.form at.yielded record_in at.history new at.invariant.opened
+          (goes-home at.history new host (home_of at.history) c.args.form record_in.bytes _ at.invariant.home
+          (subst (λ b. GoesOn at.history new (λ k. goes_on (home_of at.history) c.args.form k record_in.bytes) b) c.if-not-going.false c.in_ok-going.ensures.goes_on));
     }
 
 pub returns-then-not-going-clause-refused : goal.returns-then-not-going-clause-refused
 returns-then-not-going-clause-refused c =
+    let at = c.loop-record in
+    let record_in = c.in-Some.record in
     let host = home_of c.args.history.now in
-    let old = c.loop-record.history in
-    let new = c.take_record.new.history in
-    ap (refused_at host c.args.form) (sym c.as_slice-items.ensures)
-    ∙ opened-refused host c.args.form c.as_slice-items.result.now c.loop-record.record-index c.record-item.result old new (omega arith) c.record-item.is c.loop-record.invariant.opened
-    (goes-home old new host (home_of old) c.args.form c.record-item.result.bytes _ c.loop-record.invariant.home
-    (subst (λ b. GoesOn old new (λ k. goes_on (home_of old) c.args.form k c.record-item.result.bytes) b) c.if-not-going.true c.in_ok-going.ensures.goes_on))
+    let new = c.take_record-taken.new.history in
+    let all = c.into_iter-record-iterator.ensures.into_iter_gives.0 ∙ c.into_vec-record-items.ensures in
+    opened-refused host c.args.form c.args.records at.yielded (into_iter_items c.next.new.self) record_in at.history new
+    (sym all ∙ sym at.invariant.all ∙ ap (λ l. at.yielded ++ l) c.in-Some.ensures.steps.0) at.invariant.opened
+    (goes-home at.history new host (home_of at.history) c.args.form record_in.bytes _ at.invariant.home
+    (subst (λ b. GoesOn at.history new (λ k. goes_on (home_of at.history) c.args.form k record_in.bytes) b) c.if-not-going.true c.in_ok-going.ensures.goes_on))
 
 pub returns-clause-opens : goal.returns-clause-opens
 returns-clause-opens c =
-    let items = c.as_slice-items.result.now in
-    let whole : c.loop-record.record-index ≡ length items = omega arith in
-    opened-all (home_of c.args.history.now) c.args.form c.loop-record.record-index items c.args.records.now c.loop-record.history whole c.as_slice-items.ensures c.loop-record.invariant.opened
+    let at = c.loop-record in
+    opened-all (home_of c.args.history.now) c.args.form at.yielded (into_iter_items at.record-iterator) c.args.records at.history
+    (at.invariant.all ∙ c.into_iter-record-iterator.ensures.into_iter_gives.0 ∙ c.into_vec-record-items.ensures) (omega (arith, at.invariant.left, c.in-None.ensures.steps.0)) at.invariant.opened

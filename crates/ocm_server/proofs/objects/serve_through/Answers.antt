@@ -13,7 +13,7 @@ use Rattle.ocm_server.proofs.objects.serve_through.Goals as goal
 pub returns-clause-service : goal.returns-clause-service
 returns-clause-service g c =
     let W : Type 0 = Worker g.row.T.Denot g.row.L.Denot g.row.N.Denot g.row.K.Denot g.row.T-Work.Denot g.row.T-Mark.Denot g.row.T-Terms.Denot g.row.L-Conn.Denot in
-    let view : W → Work g.row.L-Conn.Denot g.row.T-Terms.Denot = λ w. work (g.L.Door.told w.door) (g.L.Door.faults w.door) (g.N.Dial.exchanges w.dial) (g.N.Dial.faults w.dial) (g.N.Dial.delivers w.dial) w.draw (g.K.Clock.given w.clock) w.pass w.end in
+    let view : W → Work g.row.L-Conn.Denot g.row.T-Terms.Denot = λ w. work (g.L.Door.told w.door) (g.L.Door.faults w.door) (g.N.Post.exchanges w.post) (g.N.Post.faults w.post) (g.N.Post.delivers w.post) w.draw (g.K.Clock.given w.clock) w.pass w.end in
     let mine : W → List Call = λ w. mine_of w.pass in
     let dealt : (i : ℕ) → i < length c.args.workers.now → i < length c.deal.new.workers = λ i below. let a = c.deal.auto.workers in omega (arith, below, a) in
     let served : (i : ℕ) → i < length c.args.workers.now → i < length c.serve_all-rounds.new.workers = λ i below. let a = c.deal.auto.workers in let b = c.serve_all-rounds.auto.workers in omega (arith, below, a, b) in
@@ -42,7 +42,7 @@ returns-clause-service g c =
 pub gather-requires-clause-one : goal.gather-requires-clause-one
 gather-requires-clause-one g c = λ i d below.
     let W : Type 0 = Worker g.row.T.Denot g.row.L.Denot g.row.N.Denot g.row.K.Denot g.row.T-Work.Denot g.row.T-Mark.Denot g.row.T-Terms.Denot g.row.L-Conn.Denot in
-    let view : W → Work g.row.L-Conn.Denot g.row.T-Terms.Denot = λ w. work (g.L.Door.told w.door) (g.L.Door.faults w.door) (g.N.Dial.exchanges w.dial) (g.N.Dial.faults w.dial) (g.N.Dial.delivers w.dial) w.draw (g.K.Clock.given w.clock) w.pass w.end in
+    let view : W → Work g.row.L-Conn.Denot g.row.T-Terms.Denot = λ w. work (g.L.Door.told w.door) (g.L.Door.faults w.door) (g.N.Post.exchanges w.post) (g.N.Post.faults w.post) (g.N.Post.delivers w.post) w.draw (g.K.Clock.given w.clock) w.pass w.end in
     let a = c.deal.auto.workers in
     let b = c.serve_all-rounds.auto.workers in
     same_parts g.L.Conn.Conn.sides c.args.config.now c.args.node (view (get_or c.deal.new.workers i d)) (view (get_or c.serve_all-rounds.new.workers i d)) (c.serve_all-rounds.ensures.each i d (omega (arith, below, b)))

@@ -7,9 +7,9 @@ use Rattle.ocm_server.proofs.workers.serve_door.Given as goal
 abbrev pub invariant-loop : goal.invariant-loop
 invariant-loop g l = record {
   own : BelongsTo l.node l.pass;
-  serves : Serves g.L.Conn.Conn.sides l.config l.node.limit (g.N.Dial.delivers l.initial.dial) (g.L.Door.told l.initial.door) (g.L.Door.told l.door) false
-      (desk l.initial.draw (g.K.Clock.given l.initial.clock) (g.N.Dial.exchanges l.initial.dial) l.initial.pass) (desk l.draw (g.K.Clock.given l.clock) (g.N.Dial.exchanges l.dial) l.pass);
+  serves : Serves g.L.Conn.Conn.sides l.config l.node.limit (g.N.Post.delivers l.initial.post) (g.L.Door.told l.initial.door) (g.L.Door.told l.door) false
+      (desk l.initial.draw (g.K.Clock.given l.initial.clock) (g.N.Post.exchanges l.initial.post) l.initial.pass) (desk l.draw (g.K.Clock.given l.clock) (g.N.Post.exchanges l.post) l.pass);
   unfailed : g.L.Door.faults l.door ≡ g.L.Door.faults l.initial.door;
-  dial_never_falls : g.N.Dial.faults l.initial.dial ≤ g.N.Dial.faults l.dial;
-  kind : g.N.Dial.delivers l.dial ≡ g.N.Dial.delivers l.initial.dial;
+  post_never_falls : g.N.Post.faults l.initial.post ≤ g.N.Post.faults l.post;
+  kind : g.N.Post.delivers l.post ≡ g.N.Post.delivers l.initial.post;
 }

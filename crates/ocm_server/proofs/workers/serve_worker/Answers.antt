@@ -11,14 +11,14 @@ returns g c = let a = c.take-taken.ensures.value in let b = c.unwrap-pass.ensure
     had = sym a ∙ b;
     has = refl;
     own = c.serve_door-worker.ensures.own;
-    moved = visits_moved g.L.Conn.Conn.sides c.args.config.now c.args.node.now.limit (g.N.Dial.delivers c.args.worker.now.dial) c.serve_door-worker.ensures.serves.visits
-        (desk c.args.worker.now.draw (g.K.Clock.given c.args.worker.now.clock) (g.N.Dial.exchanges c.args.worker.now.dial) c.unwrap-pass.result) (desk c.serve_door-worker.new.draw (g.K.Clock.given c.serve_door-worker.new.clock) (g.N.Dial.exchanges c.serve_door-worker.new.dial) c.serve_door-worker.new.pass) c.serve_door-worker.ensures.serves.served;
+    moved = visits_moved g.L.Conn.Conn.sides c.args.config.now c.args.node.now.limit (g.N.Post.delivers c.args.worker.now.post) c.serve_door-worker.ensures.serves.visits
+        (desk c.args.worker.now.draw (g.K.Clock.given c.args.worker.now.clock) (g.N.Post.exchanges c.args.worker.now.post) c.unwrap-pass.result) (desk c.serve_door-worker.new.draw (g.K.Clock.given c.serve_door-worker.new.clock) (g.N.Post.exchanges c.serve_door-worker.new.post) c.serve_door-worker.new.pass) c.serve_door-worker.ensures.serves.served;
     serves = c.serve_door-worker.ensures.serves;
     order = c.calls-calls.ensures.stand.1;
     fault = c.serve_door-worker.ensures.fault;
     unfailed = c.serve_door-worker.ensures.unfailed;
     never_falls = c.serve_door-worker.ensures.never_falls;
-    dial_never_falls = c.serve_door-worker.ensures.dial_never_falls;
+    post_never_falls = c.serve_door-worker.ensures.post_never_falls;
     same_kind = c.serve_door-worker.ensures.kind;
   };
 }

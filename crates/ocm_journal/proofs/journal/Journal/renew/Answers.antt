@@ -21,42 +21,42 @@ returns-in_err-room-clause-any_moment g c = λ tells label before s.
 
 pub put_behind-requires-clause-end : goal.put_behind-requires-clause-end
 put_behind-requires-clause-end g c =
-    let fits : 2 + blocks_size c.args.records.now ≤ c.args.self.now.area = c.if-not-fits_area.ensures.0 refl in
-    let size = length-renewed (c.other_area-other.result.0 - c.min-place.result) c.args.records.now c.in_ok-text.text c.as_slice.result.now c.as_slice.ensures c.in_ok-text.ensures in
+    let fits : 2 + blocks_size c.args.records ≤ c.args.self.now.area = c.if-not-fits.ensures.fits.0 refl in
+    let size = length-renewed (c.other_area-other.result.0 - c.min-place.result) c.args.records c.in_ok-text.text c.as_slice.result.now c.as_slice.ensures c.in_ok-text.ensures in
     omega (arith, size, c.min-place.ensures, c.other_area-other.ensures.high, c.args.self.now.area_size.1, fits)
 
 pub invariant_of-self-2-clause-gate_within : goal.invariant_of-self-2-clause-gate_within
 invariant_of-self-2-clause-gate_within g c =
-    let fits : 2 + blocks_size c.args.records.now ≤ c.args.self.now.area = c.if-not-fits_area.ensures.0 refl in
-    let size = length-renewed (c.other_area-other.result.0 - c.min-place.result) c.args.records.now c.in_ok-text.text c.in_ok-text.text refl c.in_ok-text.ensures in
+    let fits : 2 + blocks_size c.args.records ≤ c.args.self.now.area = c.if-not-fits.ensures.fits.0 refl in
+    let size = length-renewed (c.other_area-other.result.0 - c.min-place.result) c.args.records c.in_ok-text.text c.in_ok-text.text refl c.in_ok-text.ensures in
     let len : c.len-2.result ≡ length c.in_ok-text.text = c.len-2.ensures in
     (omega (arith, size, len, c.min-place.ensures), omega (arith, size, len, c.min-place.ensures, fits))
 
 pub returns-then-is_err-clause-any_moment : goal.returns-then-is_err-clause-any_moment
 returns-then-is_err-clause-any_moment g c = λ tells label before s.
     let d = g.D.Disk in
-    let fits : 2 + blocks_size c.args.records.now ≤ c.args.self.now.area = c.if-not-fits_area.ensures.0 refl in
+    let fits : 2 + blocks_size c.args.records ≤ c.args.self.now.area = c.if-not-fits.ensures.fits.0 refl in
     let len_is : c.len.result ≡ length (d.seen c.args.self.now.disk) = c.len.ensures ∙ sym (g.met.D.Disk.sizes c.args.self.now.disk tells) in
     let inside : c.args.self.now.gate < c.len.result = omega (arith, c.args.self.now.inside, c.len.ensures) in
-    renewal_moments g.D.Disk label before c.args.records.now c.args.self.now c.room.new.self c.other_area-other.result.0 c.other_area-other.result.1 c.min-place.result c.len.result c.in_ok-text.text c.as_slice.result.now c.other_area-other.ensures.second c.other_area-other.ensures.first c.requires.sizes fits len_is c.min-place.ensures inside c.as_slice.ensures c.in_ok-text.ensures c.room.ensures.seen s c.put_behind.new.disk (g.met.D.Disk.only_now c.args.self.now.disk) c.room.ensures.time (c.room.ensures.crash tells) (c.put_behind.ensures.any_moment tells)
+    renewal_moments g.D.Disk label before c.args.records c.args.self.now c.room.new.self c.other_area-other.result.0 c.other_area-other.result.1 c.min-place.result c.len.result c.in_ok-text.text c.as_slice.result.now c.other_area-other.ensures.second c.other_area-other.ensures.first c.fits.ensures.sizes fits len_is c.min-place.ensures inside c.as_slice.ensures c.in_ok-text.ensures c.room.ensures.seen s c.put_behind.new.disk (g.met.D.Disk.only_now c.args.self.now.disk) c.room.ensures.time (c.room.ensures.crash tells) (c.put_behind.ensures.any_moment tells)
 
 pub returns-clause-any_moment : goal.returns-clause-any_moment
 returns-clause-any_moment g c = λ tells label before s.
     let d = g.D.Disk in
-    let fits : 2 + blocks_size c.args.records.now ≤ c.args.self.now.area = c.if-not-fits_area.ensures.0 refl in
+    let fits : 2 + blocks_size c.args.records ≤ c.args.self.now.area = c.if-not-fits.ensures.fits.0 refl in
     let len_is : c.len.result ≡ length (d.seen c.args.self.now.disk) = c.len.ensures ∙ sym (g.met.D.Disk.sizes c.args.self.now.disk tells) in
     let inside : c.args.self.now.gate < c.len.result = omega (arith, c.args.self.now.inside, c.len.ensures) in
-    renewal_moments g.D.Disk label before c.args.records.now c.args.self.now c.room.new.self c.other_area-other.result.0 c.other_area-other.result.1 c.min-place.result c.len.result c.in_ok-text.text c.as_slice.result.now c.other_area-other.ensures.second c.other_area-other.ensures.first c.requires.sizes fits len_is c.min-place.ensures inside c.as_slice.ensures c.in_ok-text.ensures c.room.ensures.seen s c.put_behind.new.disk (g.met.D.Disk.only_now c.args.self.now.disk) c.room.ensures.time (c.room.ensures.crash tells) (c.put_behind.ensures.any_moment tells)
+    renewal_moments g.D.Disk label before c.args.records c.args.self.now c.room.new.self c.other_area-other.result.0 c.other_area-other.result.1 c.min-place.result c.len.result c.in_ok-text.text c.as_slice.result.now c.other_area-other.ensures.second c.other_area-other.ensures.first c.fits.ensures.sizes fits len_is c.min-place.ensures inside c.as_slice.ensures c.in_ok-text.ensures c.room.ensures.seen s c.put_behind.new.disk (g.met.D.Disk.only_now c.args.self.now.disk) c.room.ensures.time (c.room.ensures.crash tells) (c.put_behind.ensures.any_moment tells)
 
 pub returns-clause-acknowledged : goal.returns-clause-acknowledged
 returns-clause-acknowledged g c = λ tells label before s.
     let d = g.D.Disk in
-    let fits : 2 + blocks_size c.args.records.now ≤ c.args.self.now.area = c.if-not-fits_area.ensures.0 refl in
+    let fits : 2 + blocks_size c.args.records ≤ c.args.self.now.area = c.if-not-fits.ensures.fits.0 refl in
     let len_is : c.len.result ≡ length (d.seen c.args.self.now.disk) = c.len.ensures ∙ sym (g.met.D.Disk.sizes c.args.self.now.disk tells) in
     let inside : c.args.self.now.gate < c.len.result = omega (arith, c.args.self.now.inside, c.len.ensures) in
     let good = sym c.is_err.ensures.value ∙ c.if-is_err.false in
-    let new = renewal_image g.D.Disk label before c.args.records.now c.args.self.now c.room.new.self c.other_area-other.result.0 c.other_area-other.result.1 c.min-place.result c.len.result c.in_ok-text.text c.as_slice.result.now c.other_area-other.ensures.second c.other_area-other.ensures.first c.requires.sizes fits len_is c.min-place.ensures inside c.as_slice.ensures c.in_ok-text.ensures c.room.ensures.seen s (d.seen c.put_behind.new.disk) (on_ok c.put_behind.result _ good (c.put_behind.ensures.switched tells)) in
-    let size = length-renewed (c.other_area-other.result.0 - c.min-place.result) c.args.records.now c.in_ok-text.text c.in_ok-text.text refl c.in_ok-text.ensures in
+    let new = renewal_image g.D.Disk label before c.args.records c.args.self.now c.room.new.self c.other_area-other.result.0 c.other_area-other.result.1 c.min-place.result c.len.result c.in_ok-text.text c.as_slice.result.now c.other_area-other.ensures.second c.other_area-other.ensures.first c.fits.ensures.sizes fits len_is c.min-place.ensures inside c.as_slice.ensures c.in_ok-text.ensures c.room.ensures.seen s (d.seen c.put_behind.new.disk) (on_ok c.put_behind.result _ good (c.put_behind.ensures.switched tells)) in
+    let size = length-renewed (c.other_area-other.result.0 - c.min-place.result) c.args.records c.in_ok-text.text c.in_ok-text.text refl c.in_ok-text.ensures in
     let len : c.len-2.result ≡ length c.in_ok-text.text = c.len-2.ensures in
     record {
       image = new.0;
@@ -79,12 +79,12 @@ returns-clause-fewer g c = λ left few b.
 pub returns-then-is_err-clause-after_fault : goal.returns-then-is_err-clause-after_fault
 returns-then-is_err-clause-after_fault g c = λ tells label before left s stopped p b.
     let d = g.D.Disk in
-    let fits : 2 + blocks_size c.args.records.now ≤ c.args.self.now.area = c.if-not-fits_area.ensures.0 refl in
+    let fits : 2 + blocks_size c.args.records ≤ c.args.self.now.area = c.if-not-fits.ensures.fits.0 refl in
     let len_is : c.len.result ≡ length (d.seen c.args.self.now.disk) = c.len.ensures ∙ sym (g.met.D.Disk.sizes c.args.self.now.disk tells) in
     let inside : c.args.self.now.gate < c.len.result = omega (arith, c.args.self.now.inside, c.len.ensures) in
     let only_mid : Only (d.seen c.room.new.self) (d.may_leave c.room.new.self) = λ x leaves. s.durable x (c.room.ensures.crash tells x leaves) ∙ sym c.room.ensures.seen in
     let room : c.min-place.result + length c.as_slice.result.now ≤ d.size c.room.new.self + d.spare c.room.new.self = omega (arith, c.in_ok-room.ensures.room, ap length c.as_slice.ensures) in
-    renewal_after_fault g.D.Disk label before c.args.records.now c.args.self.now c.room.new.self c.other_area-other.result.0 c.other_area-other.result.1 c.min-place.result c.len.result c.in_ok-text.text c.as_slice.result.now c.other_area-other.ensures.second c.other_area-other.ensures.first c.requires.sizes fits len_is c.min-place.ensures inside c.as_slice.ensures c.in_ok-text.ensures c.room.ensures.seen s left c.put_behind.new.disk (c.put_behind.ensures.cut_short tells only_mid left (c.room.ensures.passes left p) (c.room.ensures.burnt left b) room)
+    renewal_after_fault g.D.Disk label before c.args.records c.args.self.now c.room.new.self c.other_area-other.result.0 c.other_area-other.result.1 c.min-place.result c.len.result c.in_ok-text.text c.as_slice.result.now c.other_area-other.ensures.second c.other_area-other.ensures.first c.fits.ensures.sizes fits len_is c.min-place.ensures inside c.as_slice.ensures c.in_ok-text.ensures c.room.ensures.seen s left c.put_behind.new.disk (c.put_behind.ensures.cut_short tells only_mid left (c.room.ensures.passes left p) (c.room.ensures.burnt left b) room)
 
 pub returns-clause-shut : goal.returns-clause-shut
 returns-clause-shut g c = λ tells.
@@ -96,8 +96,8 @@ returns-clause-shut g c = λ tells.
     let low : 512 ≤ c.min-place.result = omega (arith, c.min-place.ensures, c.len.ensures, mid_is, inside, c.other_area-other.ensures.low, c.args.self.now.starts.0, c.args.self.now.gate_within.0) in
     let good = sym c.is_err.ensures.value ∙ c.if-is_err.false in
     let zeros : List ℕ = replicate (c.other_area-other.result.0 - c.min-place.result) 0 in
-    let front : List ℕ = zeros ++ (2 ∷ blocks c.args.records.now) in
-    let text : c.as_slice.result.now ≡ front ++ 0 ∷ [] = c.as_slice.ensures ∙ c.in_ok-text.ensures ∙ sym (append_assoc zeros (2 ∷ blocks c.args.records.now) (0 ∷ [])) in
+    let front : List ℕ = zeros ++ (2 ∷ blocks c.args.records) in
+    let text : c.as_slice.result.now ≡ front ++ 0 ∷ [] = c.as_slice.ensures ∙ c.in_ok-text.ensures ∙ sym (append_assoc zeros (2 ∷ blocks c.args.records) (0 ∷ [])) in
     let size : length c.in_ok-text.text ≡ length front + 1 = ap (λ (l : List ℕ). length l) (sym c.as_slice.ensures ∙ text) ∙ length-append front (0 ∷ []) in
     let selector : c.args.self.now.selector ≤ 272 = c.args.self.now.selector_within.1 in
     shut_behind (d.seen c.room.new.self) c.min-place.result c.as_slice.result.now c.args.self.now.selector c.other_area-other.result.1 (d.seen c.put_behind.new.disk) at (omega (arith, selector, low, at)) (on_ok c.put_behind.result _ good (c.put_behind.ensures.switched tells)) front _ text (omega (arith, size, c.len-2.ensures)) (omega (arith, selector, low, size, c.len-2.ensures))

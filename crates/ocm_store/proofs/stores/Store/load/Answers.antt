@@ -18,20 +18,20 @@ load-requires-clause-label g c =
     subst IsLabel (sym same) (host-label c.args.host c.text.ensures.canonical)
 
 -- the journal has the host as its label
-loaded : (g : Over) (c : goal.After-drop-records g) → IsLoaded g.D.Disk c.args.host (new_area c.args.limit) c.args.disk c.in-Ok.journal c.in-Ok.records
+loaded : (g : Over) (c : goal.After-replay g) → IsLoaded g.D.Disk c.args.host (new_area c.args.limit) c.args.disk c.in-Ok.journal c.in-Ok.records
 loaded g c =
     let same : c.as_bytes.result.now ≡ c.args.host = c.as_bytes.ensures.value ∙ c.as_str.ensures ∙ c.text.ensures.text in
     subst (λ (label : List ℕ). IsLoaded g.D.Disk label (new_area c.args.limit) c.args.disk c.in-Ok.journal c.in-Ok.records) same
     (record { reads = c.in-Ok.ensures.reads; holds = c.in-Ok.ensures.stands; made = c.in-Ok.ensures.made; same = c.in-Ok.ensures.same; stays = c.in-Ok.ensures.stays_ok; moments = c.in-Ok.ensures.moments_ok })
 
-synced : (g : Over) (c : goal.After-drop-records g) → g.D.Disk.tells → g.D.Disk.passes c.args.disk 1
+synced : (g : Over) (c : goal.After-replay g) → g.D.Disk.tells → g.D.Disk.passes c.args.disk 1
     → g.D.Disk.faithful (journals.disk_of c.in-Ok.journal) → (x : List ℕ) → g.D.Disk.may_leave (journals.disk_of c.in-Ok.journal) x → StaysAsItOpens c.args.host (new_area c.args.limit) (g.D.Disk.seen c.args.disk) x
 synced g c tells one =
     let d = g.D.Disk in
     let same : c.as_bytes.result.now ≡ c.args.host = c.as_bytes.ensures.value ∙ c.as_str.ensures ∙ c.text.ensures.text in
     subst (λ (label : List ℕ). d.faithful (journals.disk_of c.in-Ok.journal) → (x : List ℕ) → d.may_leave (journals.disk_of c.in-Ok.journal) x → StaysAsItOpens label (new_area c.args.limit) (d.seen c.args.disk) x) same (c.in-Ok.ensures.synced_ok tells one)
 
-replayed : (g : Over) (c : goal.After-drop-records g) → IfOk c.replay.result (IsReplayed g.D.Disk c.args.host c.in-Ok.journal c.in-Ok.records)
+replayed : (g : Over) (c : goal.After-replay g) → IfOk c.replay.result (IsReplayed g.D.Disk c.args.host c.in-Ok.journal c.in-Ok.records)
 replayed g c = replayed-all g.D.Disk c.args.host c.in-Ok.journal c.in-Ok.records c.replay.result c.replay.ensures.host c.replay.ensures.journal c.replay.ensures.memory c.replay.ensures.goes
 
 pub returns-in-Ok-clause-opened : goal.returns-in-Ok-clause-opened
