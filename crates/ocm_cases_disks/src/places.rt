@@ -4,7 +4,8 @@ ghost use Rattle.std.specs.Prelude.{◌≤◌, ◌^◌};
 use crate::pieces::{bytes_of, bytes_told};
 use ocm_cases_rows::{add_bytes, crash_of, limit_of, named_told};
 use ocm_disk::MemDisk;
-use ocm_journal::{Journal, OpenFault, RawRecord};
+use ocm_journal::{Journal, OpenFault};
+use ocm_journal_area::{PlacedLeft, PlacedRecord};
 use std::alloc::Global;
 use std::mem;
 
@@ -63,7 +64,7 @@ fn opened(
 {
     match Journal::load(alloc, disk, label, limit) {
         Ok((journal, records)) => {
-            let told = journal_told(alloc, &journal, records.as_slice());
+            let told = journal_told(alloc, &journal, records.left());
             drop(records);
             (JournalPlace::On(journal), told)
         }
@@ -74,7 +75,7 @@ fn opened(
 fn journal_told(
     alloc: Global,
     journal: &Journal<MemDisk>,
-    records: &[RawRecord],
+    records: PlacedLeft<'_>,
 ) -> Option<String> {
     let mut text = format!(in alloc; "form {} of {}", journal.form(), journal.area()).ok()?;
     match add_records(alloc, &mut text, records) {
@@ -86,15 +87,16 @@ fn journal_told(
     }
 }
 
-fn add_records(alloc: Global, text: &mut String, records: &[RawRecord]) -> Option<()> {
-    for record in records {
-        add_record(alloc, text, record)?;
+fn add_records(alloc: Global, text: &mut String, records: PlacedLeft<'_>) -> Option<()> {
+    let mut left = records;
+    while let Some(record) = left.next() {
+        add_record(alloc, text, &record)?;
     }
     Some(())
 }
 
-fn add_record(alloc: Global, text: &mut String, record: &RawRecord) -> Option<()> {
-    let told = bytes_told(alloc, record.bytes.as_slice())?;
+fn add_record(alloc: Global, text: &mut String, record: &PlacedRecord<'_>) -> Option<()> {
+    let told = bytes_told(alloc, record.bytes)?;
     let whole = format!(in alloc; ", {} {}", record.place, told.as_str());
     drop(told);
     let whole = whole.ok()?;

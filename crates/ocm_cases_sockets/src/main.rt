@@ -3,7 +3,7 @@
 //!
 //! | line | case |
 //! |---|---|
-//! | `exchange client`, `exchange delivering` | an exchange of a client, or of a delivering worker, with a peer in a thread that answers, and one with the same port once nobody listens there |
+//! | `exchange` | a client's exchange with a peer in a thread that answers, and one with the same port once nobody listens there |
 //! | `serve WORDS` | a server by these words in a thread, and a client |
 //!
 //! A client of a server has a user made, looks for the server's document, puts a file and gets it, each on a connection of its
@@ -43,7 +43,7 @@ fn line_told<
         + Net<Listener = TcpListener, Stream = TcpStream>,
 >(rt: &R, alloc: Global, line: &str) -> Option<String> {
     match cut(line, " ") {
-        ("exchange", by) => exchanges_told(rt, alloc, by),
+        ("exchange", _) => exchanges_told(rt, alloc),
         ("serve", _) => server_told(rt, alloc, line),
         _ => None,
     }

@@ -77,6 +77,13 @@ impl Core {
         self.tables.moment()
     }
 
+    /// All lists of the server, for what tells more of them than an answer does.
+    pub fn tables(&self) -> &Tables
+        ensures { result.now ≡ self.now }
+    {
+        &self.tables
+    }
+
     /// What stands on the server.
     pub fn files(&self) -> &Tree
         ensures { result.now.nodes ≡ self.now.state.nodes }

@@ -11,10 +11,10 @@ ghost use Rattle.ocm_history_records.specs.Asking.{HasProperAsk};
 ghost use Rattle.ocm_history.specs.Replays.{GoesOn, IsMemoryOf, IsReplayFault, with_clock};
 
 use crate::histories::History;
-use ocm_base::{List, NoMemory};
+use ocm_base::NoMemory;
 use ocm_entry::Ask;
 use ocm_history_records::{ReplayFault, read_proper};
-use ocm_journal_image::RawRecord;
+use ocm_journal_area::PlacedRecords;
 use ocm_journal_records::Stamped;
 
 /// Goes on by a tick with this clock where it is above the moment so far. False where it is below.
@@ -57,11 +57,11 @@ fn take_said(history: &mut History, said: &Stamped) -> Result<bool, NoMemory>
 }
 
 /// Goes on by one record of an area of this form. False where it says nothing or may not stand here.
-fn take_record(history: &mut History, form: u8, raw: &RawRecord) -> Result<bool, NoMemory>
+fn take_record(history: &mut History, form: u8, bytes: &[u8]) -> Result<bool, NoMemory>
     ensures home { home_of history.new ≡ home_of history.old }
-    ensures goes_on { IfOk result (GoesOn history.old history.new (λ k. goes_on (home_of history.old) form k raw.now.bytes)) }
+    ensures goes_on { IfOk result (GoesOn history.old history.new (λ k. goes_on (home_of history.old) form k bytes.now)) }
 {
-    match read_proper(history.records.allocator(), form, raw.bytes.as_slice()) {
+    match read_proper(history.records.allocator(), form, bytes) {
         Ok(Some(said)) => {
             let taken = take_said(history, &said);
             drop(said);
@@ -72,25 +72,23 @@ fn take_record(history: &mut History, form: u8, raw: &RawRecord) -> Result<bool,
     }
 }
 
-/// Goes on from nothing by the records of an area of this form, each of which is let go once it was taken. `Refused` has the
-/// place of the gate of the first by which it does not go on.
+/// Goes on from nothing by the records of an area of this form. `Refused` has the place of the gate of the first by which
+/// it does not go on.
 pub fn take_records(
     history: &mut History,
     form: u8,
-    records: List<RawRecord>,
+    records: &PlacedRecords,
 ) -> Result<(), ReplayFault>
     requires { IsMemoryOf history.old [] }
     ensures home { home_of history.new ≡ home_of history.old }
-    ensures opens { OnOk result ((k : List Entry) × (opened (home_of history.old) form (contents records) ≡ Some k) × IsMemoryOf history.new k) }
-    ensures refused { IfErr result (IsReplayFault (refused_at (home_of history.old) form records)) }
+    ensures opens { OnOk result ((k : List Entry) × (opened (home_of history.old) form (contents records.now) ≡ Some k) × IsMemoryOf history.new k) }
+    ensures refused { IfErr result (IsReplayFault (refused_at (home_of history.old) form records.now)) }
 {
-    for record in records.into_vec() {
-        let place = record.place;
-        let taken = take_record(history, form, &record);
-        drop(record);
-        let going = taken?;
+    let mut left = records.left();
+    while let Some(record) = left.next() {
+        let going = take_record(history, form, record.bytes)?;
         if !going {
-            return Err(ReplayFault::Refused(place));
+            return Err(ReplayFault::Refused(record.place));
         }
     }
     Ok(())

@@ -16,5 +16,4 @@ pub use appending::AppendFault;
 pub use faults::OpenFault;
 pub use journal::Journal;
 pub use laws::{an_image_is_opened, what_is_opened_is_blank_or_an_image};
-pub use ocm_journal_image::RawRecord;
 pub use renewing::RenewFault;

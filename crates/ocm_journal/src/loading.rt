@@ -11,9 +11,10 @@ use crate::faults::OpenFault;
 use crate::journal::Journal;
 use crate::making::make;
 use crate::reading::{Opened, open_image, read_part};
-use ocm_base::{List, NoMemory};
+use ocm_base::NoMemory;
 use ocm_disk::Disk;
-use ocm_journal_image::{Blank, RawRecord, fresh_bytes, read_blank};
+use ocm_journal_area::PlacedRecords;
+use ocm_journal_image::{Blank, fresh_bytes, read_blank};
 use std::alloc::Global;
 
 // The form that a journal made of a blank disk has.
@@ -79,7 +80,7 @@ fn open_blank<D: Disk>(
         start: 512,
         form: made_form(blank),
         gate: 513,
-        records: List::new(alloc),
+        records: PlacedRecords::none(alloc),
     })
 }
 
@@ -150,7 +151,7 @@ impl<D: Disk> Journal<D> {
         disk: D,
         label: &[u8],
         limit: u64,
-    ) -> Result<(Journal<D>, List<RawRecord>), (D, OpenFault)>
+    ) -> Result<(Journal<D>, PlacedRecords), (D, OpenFault)>
         requires label { IsLabel label.now }
         requires limit { (4096 ≤ limit) × (limit ≤ 2 ^ 39) }
         ensures reads { D.tells → IfOk result (λ loaded. D.faithful (disk_of loaded.0) → opening label.now (new_area limit) (D.seen disk) ≡ Ok loaded.1) }

@@ -8,9 +8,9 @@ ghost use Rattle.ocm_journal.specs.Openings.{records_in, records_below, IsReadFa
 ghost use Rattle.ocm_journal.specs.Passing.{FailsWithDisk};
 
 use crate::faults::OpenFault;
-use ocm_base::{Bytes, List};
 use ocm_disk::Disk;
-use ocm_journal_image::{Area, Header, RawRecord, read_area, read_header};
+use ocm_journal_area::{PlacedArea, PlacedRecords, place_area};
+use ocm_journal_image::{Header, NotImage, read_header};
 use std::alloc::Global;
 
 /// What was read of an image, and where it stands.
@@ -21,7 +21,7 @@ pub(crate) struct Opened {
     pub(crate) start: u64,
     pub(crate) form: u8,
     pub(crate) gate: u64,
-    pub(crate) records: List<RawRecord>,
+    pub(crate) records: PlacedRecords,
 }
 
 // Reads so many bytes from a place on.
@@ -56,27 +56,32 @@ pub(crate) fn read_part<D: Disk>(
 }
 
 // Reads the live area of a header from its bytes.
-fn open_area(alloc: Global, len: u64, header: Header, bytes: &[u8]) -> Result<Opened, OpenFault>
+fn open_area(len: u64, header: Header, bytes: Vec<u8>) -> Result<Opened, OpenFault>
     requires label { IsLabel header.label }
     requires area { IsAreaSize header.area }
-    requires within { length bytes.now ≤ header.area }
-    requires there { start_of header + length bytes.now ≤ len }
+    requires within { length bytes.items ≤ header.area }
+    requires there { start_of header + length bytes.items ≤ len }
     ensures placed { IfOk result (IsPlaced len) }
     ensures header { IfOk result (λ opened. (opened.selector ≡ 17 + length header.label) × (opened.area ≡ header.area) × (opened.start ≡ start_of header)) }
-    ensures reads { IfOk result (λ opened. area_of len (start_of header) bytes.now ≡ Ok (record { form = opened.form; records = opened.records; end = opened.gate })) }
-    ensures bytes { IfOk result (λ opened. AreBytes bytes.now) }
-    ensures fault { IfErr result (IsSaid (records_in (area_of len (start_of header) bytes.now))) }
+    ensures reads { IfOk result (λ opened. area_of len (start_of header) bytes.items ≡ Ok (record { form = opened.form; records = opened.records; end = opened.gate })) }
+    ensures bytes { IfOk result (λ opened. AreBytes bytes.items) }
+    ensures fault { IfErr result (IsSaid (records_in (area_of len (start_of header) bytes.items))) }
 {
     let start = header.start();
-    let Area { form, records, end } = read_area(alloc, len, start, bytes)?;
-    Ok(Opened {
-        selector: 17 + header.label.len() as u64,
-        area: header.area,
-        start,
-        form,
-        gate: end,
-        records,
-    })
+    let selector = 17 + header.label.len() as u64;
+    let area = header.area;
+    drop(header);
+    match place_area(len, start, bytes) {
+        Ok(PlacedArea { form, records, end }) => Ok(Opened {
+            selector,
+            area,
+            start,
+            form,
+            gate: end,
+            records,
+        }),
+        Err(NotImage(place)) => Err(OpenFault::NotJournal(place)),
+    }
 }
 
 // Reads the image that a disk holds. `front` are its first bytes, at most 514 of them.
@@ -113,5 +118,5 @@ pub(crate) fn open_image<D: Disk>(
         return Err(OpenFault::NotJournal(len));
     }
     let bytes = read_part(alloc, disk, start, header.area.min(len - start))?;
-    open_area(alloc, len, header, &bytes)
+    open_area(len, header, bytes)
 }

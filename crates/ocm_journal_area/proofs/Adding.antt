@@ -5,15 +5,15 @@ use Rattle.std.specs.Prelude.{IsTrue}
 use Rattle.std.proofs.Math.Dec.{ltb}
 use Rattle.std.proofs.lemmas.Bool.{lt-ltb, ltb-true}
 use Rattle.std.proofs.lemmas.List.{length-append}
-use Rattle.ocm_journal_image.specs.Layout.{AreRecords, block, blocks, blocks_size}
+use Rattle.ocm_journal_image.specs.Layout.{AreRecords, block, blocks, blocks_size, contents}
 use Rattle.ocm_journal_image.proofs.ImageRead.{records_read}
 use Rattle.ocm_journal_image.proofs.Sizes.{length-blocks}
 use Rattle.ocm_journal_image.proofs.OneImage.{contents-placed}
-use Rattle.ocm_journal_area.specs.Areas.{read_of, records_in}
+use Rattle.ocm_journal_area.specs.Areas.{items_of, records_in}
 
 -- the records of an area are read of its bytes
 pub records-back : (rs : List (List ℕ)) → AreRecords rs → records_in (2 ∷ blocks rs) ≡ rs
-records-back rs are = ap read_of (records_read 0 rs 0 [] are (omega arith)) ∙ contents-placed 0 rs
+records-back rs are = ap (λ r. contents (items_of r)) (records_read 0 rs 0 [] are (omega arith)) ∙ contents-placed 0 rs
 
 pub blocks-more : (rs : List (List ℕ)) (r : List ℕ) → blocks (rs ++ r ∷ []) ≡ blocks rs ++ block r
 blocks-more [] r = nothing-behind (block r)

@@ -1,5 +1,5 @@
 -- What is read of a message whose head was read ahead.
-use Rattle.std.proofs.Common.{◌≡◌, ℕ, ◌≤◌, List, [], ◌++◌, Option, Some, None, Result, Ok, Err, refl, sym, ap, ◌∙◌, subst, arith}
+use Rattle.std.proofs.Common.{◌≡◌, ℕ, ◌≤◌, List, [], ◌++◌, Option, Some, None, Result, Ok, Err, sym, ap, ◌∙◌, subst, arith}
 use Rattle.ocm_base.specs.Outside.{Rose}
 use Rattle.ocm_base.proofs.Pieces.{came_twice}
 use Rattle.ocm_http.specs.Readers.{ReaderState, with_held}

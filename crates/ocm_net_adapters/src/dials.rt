@@ -1,89 +1,38 @@
-ghost use Rattle.std.specs.Prelude.{◌≡◌, ◌≤◌, Some, true, false, is_some, Err, IfOk, length};
+ghost use Rattle.std.specs.Prelude.{◌≡◌, ◌≤◌, Some, true, false, Err, IfOk, length};
 ghost use Rattle.ocm_base.specs.Outside.{Rose};
+ghost use Rattle.ocm_limits.specs.Limits.{most_exchange_bytes};
 ghost use Rattle.ocm_net_adapters.specs.Dials.{nothing_told};
 
 use crate::dial_books::DialBook;
 use ocm_base::Bytes;
-use ocm_net_exchanges::Exchanges;
-use ocm_net_flights::{Limits, Peers, exchange_alone};
+use ocm_limits::MOST_EXCHANGE_BYTES;
+use ocm_net_flights::{Addresses, ExchangeFault, Limits, Peers, exchange_alone, name_and_port};
 use ocm_pump::{Dial, DialEnd};
 use ocm_types::Host;
 use std::alloc::Global;
-use std::io::Eprint;
 use std::net::Net;
-use std::sync::{Arc, Wait};
-use std::thread::Threads;
+use std::sync::Wait;
+use std::sync::atomic::AtomicU64;
 use std::time;
 
-/// A server's exchanges over TCP, each on a connection of its own, with limits of time and bytes. A worker that delivers
-/// has one over exchanges that go on beside it; one that serves has one that makes none. It tells what it was asked and what
-/// it gave. A request that was given no reply may have been sent, and its reply may be given where it is asked once more.
-pub struct TcpDial<'a, R: Wait + time::Clock> {
-    exchanges: Option<Arc<Exchanges<'a, R>, Global>>,
-    book: DialBook,
-}
+/// How far a client's exchange may go, with any peer: 33,619,968 bytes, in 5.5 s and a millisecond for each four bytes that
+/// moved.
+const LIMITS: Limits = Limits {
+    most: MOST_EXCHANGE_BYTES,
+    whole: 5_500,
+    is_by_rate: true,
+    peers: Peers::Any,
+};
 
-impl<R: Wait + time::Clock> Drop for TcpDial<'_, R> {
-    fn drop(self) {
-        let TcpDial {
-            exchanges: _,
-            book: _,
-        } = self;
-    }
-}
-
-impl<'a, R: Wait + time::Clock> TcpDial<'a, R> {
-    /// A dial over these exchanges, with no fault so far.
-    pub fn new(exchanges: Arc<Exchanges<'a, R>, Global>) -> TcpDial<'a, R>
-        ensures delivers { is_some result.exchanges ≡ true }
-        ensures fresh { result.book ≡ nothing_told }
-    {
-        TcpDial {
-            exchanges: Some(exchanges),
-            book: DialBook::new(),
-        }
-    }
-
-    /// A dial that makes no exchange, with no fault so far.
-    pub fn idle() -> TcpDial<'a, R>
-        ensures delivers { is_some result.exchanges ≡ false }
-        ensures fresh { result.book ≡ nothing_told }
-    {
-        TcpDial {
-            exchanges: None,
-            book: DialBook::new(),
-        }
-    }
-}
-
-impl<'a, R: Wait + time::Clock + Threads + Net + Eprint> Dial for TcpDial<'a, R> {
-    ghost exchanges = { λ d. Some d.book.exchanges };
-
-    ghost faults = { λ d. d.book.faults };
-
-    ghost delivers = { λ d. is_some d.exchanges };
-
-    ghost told = { λ d. Some d.book.told };
-
-    fn delivers(&self) -> bool {
-        self.exchanges.is_some()
-    }
-
-    #[tactic(auto, using(crate::proofs::Exchanging::adds_one))]
-    fn exchange(&mut self, _alloc: Global, host: &Host, request: &Bytes) -> Result<Bytes, DialEnd> {
-        let came = match &self.exchanges {
-            Some(exchanges) => exchanges.exchange(host.as_str(), request),
-            None => unreachable!(),
-        };
-        self.book.end(host, request, came)
-    }
-
-    fn came(&mut self, host: &Host, settles: bool) {
-        self.book.hear(host, settles);
-        if let Some(exchanges) = &self.exchanges {
-            exchanges.came(host.as_str(), settles);
-        }
-    }
+/// Makes an exchange with a host, and waits for its end. A host that names no port has port 80.
+fn exchange(alloc: Global, host: &str, request: &Bytes) -> Result<Bytes, ExchangeFault>
+    ensures { IfOk result (λ reply. length reply ≤ most_exchange_bytes) }
+{
+    let Some((name, port)) = name_and_port(host) else {
+        return Err(ExchangeFault::Failed);
+    };
+    let addresses = Addresses::look_up(name, port);
+    exchange_alone(alloc, &addresses, request, LIMITS, &AtomicU64::new(0))
 }
 
 /// A client's exchanges over TCP, each on a connection of its own and awaited to its end, with limits of time. It asks any
@@ -126,8 +75,7 @@ impl<'a, R: Wait + time::Clock + Net> Dial for ClientDial<'a, R> {
 
     #[tactic(auto, using(crate::proofs::Exchanging::adds_one))]
     fn exchange(&mut self, alloc: Global, host: &Host, request: &Bytes) -> Result<Bytes, DialEnd> {
-        let limits = Limits::alone(Peers::Any);
-        let came = exchange_alone(self.rt, alloc, host.as_str(), request, limits);
+        let came = exchange(alloc, host.as_str(), request);
         self.book.end(host, request, came)
     }
 

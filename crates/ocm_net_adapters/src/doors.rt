@@ -3,11 +3,14 @@ ghost use Rattle.std.specs.Prelude.{◌≡◌, Some};
 use crate::books::Book;
 use crate::conns::StreamConn;
 use ocm_base::Failed;
-use ocm_net_exchanges::Delivering;
+use ocm_net_posts::Delivering;
 use ocm_net_sockets::Serving;
 use ocm_server::Door;
 use ocm_server_connections::Ended;
+use std::io::Eprint;
+use std::net::Net;
 use std::sync::Wait;
+use std::thread::Threads;
 use std::time;
 
 /// Where a worker's connections come from.
@@ -44,6 +47,8 @@ impl<'a, R: Wait + time::Clock> NetDoor<'a, R> {
 
     /// The next connection.
     fn take_next(&mut self) -> Option<StreamConn<'a, R>>
+    where
+        R: Threads + Net + Eprint,
         ensures { self.new.book ≡ self.old.book }
     {
         match &mut self.gives {
@@ -81,7 +86,7 @@ fn round_of<'a, R: time::Clock>(goes_on: bool) -> Option<StreamConn<'a, R>> {
     }
 }
 
-impl<'a, R: Wait + time::Clock> Door for NetDoor<'a, R> {
+impl<'a, R: Wait + time::Clock + Threads + Net + Eprint> Door for NetDoor<'a, R> {
     type Conn = StreamConn<'a, R>;
 
     ghost told = { λ d. Some d.book };

@@ -9,8 +9,10 @@ mod conns;
 mod dial_books;
 mod dials;
 mod doors;
+mod posts;
 
 pub use conns::StreamConn;
-pub use dials::{ClientDial, TcpDial};
+pub use dials::ClientDial;
 pub use doors::NetDoor;
 pub use ocm_net_flights::{Peers, is_local_host};
+pub use posts::TcpPost;

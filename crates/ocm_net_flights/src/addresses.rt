@@ -6,7 +6,7 @@ use crate::peers::Peers;
 use libc::net::{AF_INET, AF_INET6, SOCK_CLOEXEC, SOCK_NONBLOCK, SOCK_STREAM, connect, socket};
 use ocm_net_waits::owned;
 use os::RawAddr;
-use std::net::{Ipv4Addr, TcpStream};
+use std::net::TcpStream;
 use std::os::fd::AsRawFd;
 
 /// The port of a host that names none.
@@ -69,11 +69,6 @@ pub fn name_and_port(host: &str) -> Option<(&str, u16)> {
         Some((name, port)) => Some((name, port.parse().ok()?)),
         None => Some((host, PORT)),
     }
-}
-
-/// Whether a name is an address of IPv4, which the system reads without asking anybody.
-pub fn is_literal(name: &str) -> bool {
-    name.parse::<Ipv4Addr>().is_ok()
 }
 
 /// A socket for an address, which waits for nothing.

@@ -83,6 +83,11 @@ impl Course {
         (self.sent as u64).saturating_add(self.reply.len() as u64)
     }
 
+    /// Whether some of the request is still to be sent.
+    pub fn sends(&self, request: &[u8]) -> bool {
+        self.sent < request.len()
+    }
+
     /// What came back, interim replies among it.
     fn into_came(self) -> Vec<u8>
         ensures { result ≡ self.reply }

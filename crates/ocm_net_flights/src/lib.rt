@@ -1,8 +1,6 @@
-//! One exchange with another server: from the look-up of its host's name to the end of its reply, so that nothing waits
-//! for the peer, or driven to its end.
+//! One exchange with another server, which is driven to its end: a request on a connection of its own, and its reply.
 //!
-//! Contracts know nothing of what a socket gives or takes: what stands here is safe, and each call but those that wait
-//! returns.
+//! Contracts know nothing of what a socket gives or takes: what stands here is safe, and each call returns.
 #![tactic(auto)]
 
 mod addresses;
@@ -11,14 +9,12 @@ mod faults;
 mod flights;
 mod interims;
 mod lone;
-mod lookups;
 mod peers;
 mod replies;
+mod waits;
 
-pub use addresses::{Addresses, is_literal, name_and_port};
-pub use courses::Step;
+pub use addresses::{Addresses, name_and_port};
 pub use faults::ExchangeFault;
-pub use flights::{Flight, Limits};
+pub use flights::Limits;
 pub use lone::exchange_alone;
-pub use lookups::{Lookup, Lookups};
 pub use peers::{Peers, is_local_host};

@@ -2,10 +2,10 @@
 ghost use Rattle.std.specs.Prelude.{◌≡◌, ◌+◌, None, All, IfOk, OnOk, vec_len};
 
 use ocm_base::{Clock, StdClock};
-use ocm_net_adapters::{NetDoor, Peers, TcpDial, is_local_host};
-use ocm_net_exchanges::{Delivering, Exchanges};
+use ocm_net_adapters::{NetDoor, Peers, TcpPost, is_local_host};
+use ocm_net_posts::{Delivering, Posts};
 use ocm_net_sockets::Serving;
-use ocm_pump::{DialPost, Post};
+use ocm_pump::Post;
 use ocm_serve_options::{Peers as Told, Plan};
 use ocm_serve_system::Opening;
 use ocm_server::{Door, Worker};
@@ -20,7 +20,7 @@ use std::{io, time};
 
 /// A worker with its door and post over TCP, and the system's clock: one that serves connections and delivers nothing, or
 /// one that delivers.
-pub type NetWorker<'a, T, R> = Worker<T, NetDoor<'a, R>, DialPost<TcpDial<'a, R>>, StdClock<'a, R>>;
+pub type NetWorker<'a, T, R> = Worker<T, NetDoor<'a, R>, TcpPost<'a, R>, StdClock<'a, R>>;
 
 /// Puts a worker without a pass behind others.
 fn add<T: Dated, L: Door, N: Post, K: Clock>(
@@ -60,8 +60,7 @@ fn add_serving<
     let entrance = Arc::try_clone(&opening.entrance)?;
     let door = NetDoor::serving(Serving::new(rt, alloc, entrance, number as usize)?);
     let draw = Draw::new(opening.draw_key, u64::from(number));
-    let post = DialPost::new(TcpDial::idle());
-    add(workers, door, post, draw, StdClock::new(rt))
+    add(workers, door, TcpPost::idle(), draw, StdClock::new(rt))
 }
 
 /// Which peers the server of a plan asks: any where the plan says so, and where the host itself is named as one of its own
@@ -89,12 +88,11 @@ fn add_delivering<
     ensures count { OnOk result (vec_len workers.new ≡ vec_len workers.old + 1) }
     ensures fresh { OnOk result (All (λ w. w.pass ≡ None) workers.old.items → All (λ w. w.pass ≡ None) workers.new.items) }
 {
-    let posts = Arc::try_clone(&opening.posts)?;
-    let exchanges = Arc::new(alloc, Exchanges::new(rt, alloc, posts, peers_of(plan))?)?;
-    let door = NetDoor::delivering(Delivering::new(Arc::try_clone(&exchanges)?));
+    let bell = Arc::try_clone(&opening.posts)?;
+    let posts = Arc::new(alloc, Posts::new(rt, alloc, bell, peers_of(plan))?)?;
+    let door = NetDoor::delivering(Delivering::new(Arc::try_clone(&posts)?));
     let draw = Draw::new(opening.draw_key, u64::from(plan.workers));
-    let post = DialPost::new(TcpDial::new(exchanges));
-    add(workers, door, post, draw, StdClock::new(rt))
+    add(workers, door, TcpPost::new(posts), draw, StdClock::new(rt))
 }
 
 /// The workers of a plan, each with a door of its own to what was opened, and behind them one that delivers. None has a

@@ -19,10 +19,10 @@ ghost use Rattle.ocm_store.specs.Stores.{IsLegalUnder, Stands, area_of, disk_of,
 
 use crate::load_faults::LoadFault;
 use crate::stores::Store;
-use ocm_base::List;
 use ocm_disk::{Disk, MemDisk};
 use ocm_history::{History, take_records};
-use ocm_journal::{Journal, RawRecord};
+use ocm_journal::Journal;
+use ocm_journal_area::PlacedRecords;
 use ocm_types::{Host, Numbered};
 use std::alloc::Global;
 
@@ -82,7 +82,7 @@ impl<D: Disk> Store<D> {
         alloc: Global,
         host: Host,
         journal: Journal<D>,
-        records: List<RawRecord>,
+        records: PlacedRecords,
     ) -> Result<Store<D>, (D, LoadFault)>
         requires { journal.stopped ≡ false }
         ensures host { IfOk result (λ store. host_of store ≡ host) }
@@ -93,7 +93,9 @@ impl<D: Disk> Store<D> {
         ensures refused { IfErr result (λ failed. IsRefused (refused_at host (journals.form_of journal) records) failed.1) }
     {
         let mut history = History::new(alloc, host);
-        match take_records(&mut history, journal.form(), records) {
+        let taken = take_records(&mut history, journal.form(), &records);
+        drop(records);
+        match taken {
             Ok(()) => Ok(Store {
                 history,
                 journal,

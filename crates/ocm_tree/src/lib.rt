@@ -39,6 +39,7 @@ mod trees;
 
 pub use carries::PlannedCarry;
 pub use changes::FileChange;
+pub use kept::KeptNode;
 pub use places::is_at_or_above;
 pub use plans::PlannedNode;
 pub use trees::Tree;

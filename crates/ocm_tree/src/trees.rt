@@ -14,6 +14,7 @@ ghost use Rattle.ocm_law_origins.specs.Origins.{Origin, body_from, copied, origi
 ghost use Rattle.ocm_tree.specs.Carries.{limit_after};
 ghost use Rattle.ocm_tree.specs.Changes.{act_of};
 ghost use Rattle.ocm_tree.specs.Standings.{origins_of};
+ghost use Rattle.ocm_tree.specs.Tables.{somes};
 
 use crate::amounts::limit_of_paths;
 use crate::branches::Branch;
@@ -22,6 +23,7 @@ use crate::changes::{FileChange, Part};
 use crate::comparing::{node_in, stand_alike};
 use crate::entry_numbers::EntryNumbers;
 use crate::firsts::first_standing;
+use crate::kept::KeptNode;
 use crate::limits::{first_passed, growth, size_at};
 use crate::listing::children_of;
 use crate::nodes::NodeTable;
@@ -361,6 +363,14 @@ impl Tree {
         ensures { result ≡ true → (place : Place) → node_at self.now.nodes place ≡ node_at other.now.nodes place }
     {
         stand_alike(&self.table, &other.table)
+    }
+
+    /// All nodes, in the order of their slots, some of which are empty since their nodes went. The files have at most 268,435,456 bytes.
+    pub fn nodes(&self) -> &[Option<KeptNode>]
+        ensures nodes { somes result.now ≡ self.now.nodes }
+        ensures light { total_size self.now.nodes ≤ most_stored_bytes }
+    {
+        self.table.slots()
     }
 
     /// How many slots there are. Each node is in one of them.

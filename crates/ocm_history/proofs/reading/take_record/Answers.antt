@@ -1,5 +1,4 @@
-use Rattle.std.proofs.Common.{sym, ◌∙◌, ap}
-use Rattle.ocm_journal_records.specs.Stamps.{stamped_of}
+use Rattle.std.proofs.Common.{sym, ◌∙◌}
 use Rattle.ocm_history.specs.Histories.{home_of}
 use Rattle.ocm_history.specs.Replays.{GoesOn}
 use Rattle.ocm_law_sessions.specs.Readings.{goes_on, with_stamped}
@@ -10,11 +9,11 @@ pub returns-in-Ok-Some-clause-goes_on : goal.returns-in-Ok-Some-clause-goes_on
 returns-in-Ok-Some-clause-goes_on c =
     let old = c.args.history.now in
     let new = c.take_said-taken.new.history in
-    if-ok c.take_said-taken.result (GoesOn old new (with_stamped (home_of old) c.in-Ok-Some.said)) (GoesOn old new (λ k. goes_on (home_of old) c.args.form k c.args.raw.now.bytes))
-    (λ taken goes. goes-said old new c.args.form c.args.raw.now.bytes c.in-Ok-Some.said taken
-    (ap (stamped_of c.args.form) (sym c.as_slice.ensures) ∙ sym c.in-Ok-Some.ensures.says ∙ c.in-Ok-Some.field-0-is) goes)
+    if-ok c.take_said-taken.result (GoesOn old new (with_stamped (home_of old) c.in-Ok-Some.said)) (GoesOn old new (λ k. goes_on (home_of old) c.args.form k c.args.bytes.now))
+    (λ taken goes. goes-said old new c.args.form c.args.bytes.now c.in-Ok-Some.said taken
+    (sym c.in-Ok-Some.ensures.says ∙ c.in-Ok-Some.field-0-is) goes)
     c.take_said-taken.ensures.goes_on
 
 pub returns-in-Ok-None-clause-goes_on : goal.returns-in-Ok-None-clause-goes_on
 returns-in-Ok-None-clause-goes_on c =
-    goes-unsaid c.args.history.now c.args.form c.args.raw.now.bytes (ap (stamped_of c.args.form) (sym c.as_slice.ensures) ∙ sym c.in-Ok-None.ensures.says ∙ c.in-Ok-None.field-0-is)
+    goes-unsaid c.args.history.now c.args.form c.args.bytes.now (sym c.in-Ok-None.ensures.says ∙ c.in-Ok-None.field-0-is)

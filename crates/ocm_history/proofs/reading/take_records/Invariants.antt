@@ -1,5 +1,5 @@
-use Rattle.std.proofs.Common.{◌≡◌, ◌++◌, length}
-use Rattle.std.specs.Vec.Iter.{into_iter_items, into_iter_len}
+use Rattle.std.proofs.Common.{◌≡◌, ◌++◌, List, length}
+use Rattle.ocm_journal_image.specs.declared.readings.RawRecord.{RawRecord}
 use Rattle.ocm_history.specs.Histories.{home_of}
 use Rattle.ocm_history.proofs.Going.{Opened}
 use Rattle.ocm_history.proofs.reading.take_records.Given as goal
@@ -7,7 +7,8 @@ use Rattle.ocm_history.proofs.reading.take_records.Given as goal
 abbrev pub invariant-loop-record : goal.invariant-loop-record
 invariant-loop-record l = record {
   home : home_of l.history ≡ home_of l.fn.history;
-  all : l.yielded ++ into_iter_items l.record-iterator ≡ into_iter_items l.initial.record-iterator;
-  left : into_iter_len l.record-iterator ≡ length (into_iter_items l.record-iterator);
-  opened : Opened (home_of l.fn.history) l.form l.yielded l.history;
+  taken : (front : List RawRecord) × (front ++ l.left ≡ l.records) × Opened (home_of l.fn.history) l.form front l.history;
 }
+
+abbrev pub decreases-loop-record : goal.decreases-loop-record
+decreases-loop-record l = length l.left

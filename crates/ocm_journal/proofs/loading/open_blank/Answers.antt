@@ -40,7 +40,7 @@ returns-clause-opens g c = λ tells blank.
     let at_mid : blank_of c.args.label.now c.args.area (d.seen c.room.new.self) ≡ Some c.args.blank = ap (λ (l : List ℕ). blank_of c.args.label.now c.args.area l) c.room.ensures.seen ∙ blank in
     let good = sym c.is_err.ensures.value ∙ c.if-is_err.false in
     let made = on_ok c.make.result _ good (c.make.ensures.made tells c.args.label.now c.args.area text at_mid) in
-    made_stands c.args.label.now c.args.area c.made_form.result c.args.blank c.new.result (d.seen c.args.disk.now) (d.seen c.make.new.disk) c.made_form.ensures c.new.ensures blank made c.requires.label c.requires.area
+    made_stands c.args.label.now c.args.area c.made_form.result c.args.blank c.none.result (d.seen c.args.disk.now) (d.seen c.make.new.disk) c.made_form.ensures c.none.ensures blank made c.requires.label c.requires.area
 
 pub returns-clause-made : goal.returns-clause-made
 returns-clause-made g c = λ blank. made_of c.args.label.now (g.D.Disk.seen c.args.disk.now) c.args.area c.made_form.result c.args.blank blank c.made_form.ensures

@@ -1,4 +1,4 @@
-use Rattle.std.proofs.Common.{rules, ◌≡◌, ◌≤◌, ℕ, min, List, length, sym, ◌∙◌, arith}
+use Rattle.std.proofs.Common.{rules, ◌≡◌, ◌≤◌, ℕ, min, List, length, refl, sym, ◌∙◌, arith}
 use Rattle.std.proofs.lemmas.Result.{err_from_is_err_and}
 use Rattle.ocm_texts.specs.Hex.{AreBytes}
 use Rattle.ocm_journal_image.specs.Reading.{live_bytes}
@@ -52,8 +52,8 @@ returns-clause-reads g c = λ tells is.
     let same = front_tells seen c.args.front.now c.len-len.result size front_long stays front_are in
     let found = label_same c.args.label.now c.as_slice.result.now h c.as_slice.ensures c.if-ne.ensures in
     let below = below_is c.args.label.now seen h _ _ same c.in_ok-header.ensures.reads found in
-    let shown : c.deref.result.now ≡ live_bytes h seen = live_read h seen c.deref.result.now c.in_ok-bytes.bytes.items c.len-len.result c.start-start.result c.min.result size c.start-start.ensures c.min.ensures (c.in_ok-bytes.ensures.bytes tells) c.deref.ensures.value in
-    if_ok c.open_area.result _ _ c.open_area.ensures.reads (λ o reads. reads_area c.args.label.now seen c.deref.result.now h c.len-len.result _ o.form o.gate o.records size below shown reads)
+    let shown : c.in_ok-bytes.bytes.items ≡ live_bytes h seen = live_read h seen c.in_ok-bytes.bytes.items c.in_ok-bytes.bytes.items c.len-len.result c.start-start.result c.min.result size c.start-start.ensures c.min.ensures (c.in_ok-bytes.ensures.bytes tells) refl in
+    if_ok c.open_area.result _ _ c.open_area.ensures.reads (λ o reads. reads_area c.args.label.now seen c.in_ok-bytes.bytes.items h c.len-len.result _ o.form o.gate o.records size below shown reads)
 
 pub returns-clause-says : goal.returns-clause-says
 returns-clause-says g c = λ tells is.
@@ -69,8 +69,8 @@ returns-clause-says g c = λ tells is.
     let same = front_tells seen c.args.front.now c.len-len.result size front_long stays front_are in
     let found = label_same c.args.label.now c.as_slice.result.now h c.as_slice.ensures c.if-ne.ensures in
     let below = below_is c.args.label.now seen h _ _ same c.in_ok-header.ensures.reads found in
-    let shown : c.deref.result.now ≡ live_bytes h seen = live_read h seen c.deref.result.now c.in_ok-bytes.bytes.items c.len-len.result c.start-start.result c.min.result size c.start-start.ensures c.min.ensures (c.in_ok-bytes.ensures.bytes tells) c.deref.ensures.value in
-    if_err c.open_area.result _ _ c.open_area.ensures.fault (λ e said. says_area seen c.deref.result.now h c.len-len.result _ e size below shown said)
+    let shown : c.in_ok-bytes.bytes.items ≡ live_bytes h seen = live_read h seen c.in_ok-bytes.bytes.items c.in_ok-bytes.bytes.items c.len-len.result c.start-start.result c.min.result size c.start-start.ensures c.min.ensures (c.in_ok-bytes.ensures.bytes tells) refl in
+    if_err c.open_area.result _ _ c.open_area.ensures.fault (λ e said. says_area seen c.in_ok-bytes.bytes.items h c.len-len.result _ e size below shown said)
 
 pub returns-clause-opens : goal.returns-clause-opens
 returns-clause-opens g c = λ tells is.
@@ -84,9 +84,9 @@ returns-clause-opens g c = λ tells is.
     let low : 512 ≤ c.start-start.result = omega (arith, starts_low h, c.start-start.ensures) in
     let stays = front_stays old seen c.args.front.now c.start-start.result c.min.result low (c.in_ok-bytes.ensures.elsewhere tells) front_long is in
     let found = label_same c.args.label.now c.as_slice.result.now h c.as_slice.ensures c.if-ne.ensures in
-    let shown : c.deref.result.now ≡ live_bytes h seen = live_read h seen c.deref.result.now c.in_ok-bytes.bytes.items c.len-len.result c.start-start.result c.min.result size c.start-start.ensures c.min.ensures (c.in_ok-bytes.ensures.bytes tells) c.deref.ensures.value in
+    let shown : c.in_ok-bytes.bytes.items ≡ live_bytes h seen = live_read h seen c.in_ok-bytes.bytes.items c.in_ok-bytes.bytes.items c.len-len.result c.start-start.result c.min.result size c.start-start.ensures c.min.ensures (c.in_ok-bytes.ensures.bytes tells) refl in
     let all = if_ok_both c.open_area.result _ _ (if_ok_both c.open_area.result _ _ c.open_area.ensures.reads c.open_area.ensures.header) c.open_area.ensures.bytes in
-    if_ok c.open_area.result _ _ all (λ o f. image_opens c.args.label.now seen c.args.front.now c.deref.result.now h c.len-len.result o size front_long stays front_are c.in_ok-header.ensures.reads found shown f.1 f.0.0 f.0.1.0 f.0.1.1 f.0.1.2)
+    if_ok c.open_area.result _ _ all (λ o f. image_opens c.args.label.now seen c.args.front.now c.in_ok-bytes.bytes.items h c.len-len.result o size front_long stays front_are c.in_ok-header.ensures.reads found shown f.1 f.0.0 f.0.1.0 f.0.1.1 f.0.1.2)
 
 pub returns-in_err-header-clause-unfailing : goal.returns-in_err-header-clause-unfailing
 unfolding FailsWithDisk

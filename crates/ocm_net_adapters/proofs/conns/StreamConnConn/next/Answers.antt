@@ -1,6 +1,6 @@
 use Rattle.std.proofs.Common.{ℕ, List, Some, refl, ap, subst, arith}
 use Rattle.ocm_http.specs.Readers.{with_held}
-use Rattle.ocm_server_connections.specs.Sides.{Sides, Read, IsOpen, Gives}
+use Rattle.ocm_server_connections.specs.Sides.{Read, IsOpen, Gives}
 use Rattle.ocm_server_connections.proofs.Pairing.{gives}
 use Rattle.ocm_net_adapters.specs.Conns.{sides_of}
 use Rattle.ocm_net_adapters.proofs.Behind.{gives_behind}

@@ -1,0 +1,13 @@
+mod CapLemmas
+mod CircleLemmas
+mod KeptLemmas
+mod JobLemmas
+mod LaneLemmas
+mod MakeLemmas
+mod OwnLemmas
+mod RunLemmas
+mod ScheduleLemmas
+mod StarveLemmas
+mod SumLemmas
+mod TurnLemmas
+mod WakeLemmas

@@ -1,0 +1,5 @@
+pub mod Circles
+pub mod Lanes
+pub mod Schedules
+pub mod Runs
+pub mod Jobs
